@@ -1,6 +1,6 @@
 -- Three texts are read as numbers of automata where they are those of some, and are refused where they are not; the
 -- fields of automata read back, and automata are a kind.
-use Rattle.std.proofs.Common.{◌≡◌, ℕ, ◌^◌, ◌<◌, true, false, ltb, List, [], ◌∷◌, Some, Ok, Err, refl, ap, ◌∙◌, arith, subst}
+use Rattle.std.proofs.Common.{◌≡◌, ℕ, ◌^◌, ◌<◌, ◌≤◌, true, false, ltb, List, [], ◌∷◌, Some, Ok, Err, refl, ap, ◌∙◌, arith, subst}
 use Rattle.std.specs.Prelude.{decimal}
 use Rattle.std.proofs.lemmas.Bool.Decides.{nat_tests}
 use Rattle.machine_text.specs.declared.transition.Dir.{Dir}
@@ -37,13 +37,11 @@ module _ (n : ℕ) (side : Dir) (size : ℕ) (delta rows keep : List ℕ) where
       ] refl in
       rw tested refl
 
-size_back : (a : Automata) → AreSized a → size_in (decimal_value (decimal a.size)) ≡ Some a.size
-size_back a within =
-    let small = within.small in
-    let some = within.some in
-    let least : ltb a.size 1 ≡ false = grind (arith, nat_tests, some) in
-    let most : ltb size_limit a.size ≡ false = grind (arith, nat_tests, small) in
-    ap size_in (decimal_value-decimal a.size (omega arith)) ∙ rw (least, most) refl
+pub size_back : (most m : ℕ) → most < 2 ^ 64 → 1 ≤ m → m ≤ most → size_in most (decimal_value (decimal m)) ≡ Some m
+size_back most m fits some small =
+    let least : ltb m 1 ≡ false = grind (arith, nat_tests, some) in
+    let high : ltb most m ≡ false = grind (arith, nat_tests, small) in
+    ap (size_in most) (decimal_value-decimal m (omega (arith, small, fits))) ∙ rw (least, high) refl
 
 numbers_back : (a : Automata) → AreAutomata a → AreSized a → numbers_by a.states a.side a.size (delta_text a.delta) (rows_text a.rows) (hex_text a.keep) ≡ Ok a
 numbers_back a numbers within =
@@ -53,8 +51,8 @@ numbers_back a numbers within =
 
 pub far_back : (a : Automata) → AreAutomata a → AreSized a → far_by a.states (far_fields a) ≡ Ok a
 far_back a numbers within =
-    ap (λ o. with_value o (λ side. with_value (size_in (decimal_value (decimal a.size))) (λ m. numbers_by a.states side m (delta_text a.delta) (rows_text a.rows) (hex_text a.keep)))) (side_back a.side)
-    ∙ ap (λ o. with_value o (λ m. numbers_by a.states a.side m (delta_text a.delta) (rows_text a.rows) (hex_text a.keep))) (size_back a within)
+    ap (λ o. with_value o (λ side. with_value (size_in size_limit (decimal_value (decimal a.size))) (λ m. numbers_by a.states side m (delta_text a.delta) (rows_text a.rows) (hex_text a.keep)))) (side_back a.side)
+    ∙ ap (λ o. with_value o (λ m. numbers_by a.states a.side m (delta_text a.delta) (rows_text a.rows) (hex_text a.keep))) (size_back size_limit a.size (omega arith) within.some within.small)
     ∙ numbers_back a numbers within
 
 pub far_are_fields : (a : Automata) → AreAutomata a → AreSized a → AreFields (far_fields a)

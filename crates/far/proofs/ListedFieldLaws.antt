@@ -8,21 +8,14 @@ use Rattle.kind_evidence.specs.Side.{side_text}
 use Rattle.kind_evidence.proofs.Sides.{side_back, side_is_high, length_of_side}
 use Rattle.text.specs.Decimal.{decimal_value}
 use Rattle.text.specs.Fields.{IsField, spaced, with_value}
-use Rattle.text.proofs.Numbers.{decimal_value-decimal}
 use Rattle.text.proofs.Spaced.{number_is_field, and_field, no_fields, length-spaced}
 use Rattle.far.specs.Limits.{listed_size_limit, listed_byte_limit}
 use Rattle.far.specs.ListedAutomata.{ListedAutomata}
 use Rattle.far.specs.ListedTexts.{ListedTexts, listed_texts, automata_of_texts}
-use Rattle.far.specs.ListedFields.{AreWithinRecord, listed_size_in, texts_by, listed_by, listed_fields, AreListedTexts}
+use Rattle.far.specs.Kind.{size_in}
+use Rattle.far.specs.ListedFields.{texts_by, listed_by, listed_fields, AreListedTexts}
 use Rattle.far.proofs.HighBytes.{AreRead, texts_read}
-
-size_back : (t : ListedTexts) → AreListedTexts t → listed_size_in (decimal_value (decimal t.size)) ≡ Some t.size
-size_back t are =
-    let small = are.within.small in
-    let some = are.within.some in
-    let least : ltb t.size 1 ≡ false = grind (arith, nat_tests, some) in
-    let most : ltb listed_size_limit t.size ≡ false = grind (arith, nat_tests, small) in
-    ap listed_size_in (decimal_value-decimal t.size (omega arith)) ∙ rw (least, most) refl
+use Rattle.far.proofs.KindLaws.{size_back}
 
 texts_back : (t : ListedTexts) → AreListedTexts t → texts_by t ≡ Ok t
 texts_back t are =
@@ -33,8 +26,8 @@ texts_back t are =
 
 pub listed_back : (t : ListedTexts) → AreListedTexts t → listed_by t.states (listed_fields t) ≡ Ok t
 listed_back t are =
-    ap (λ o. with_value o (λ side. with_value (listed_size_in (decimal_value (decimal t.size))) (λ size. texts_by (listed_texts t.states side size t.delta t.rows t.keep)))) (side_back t.side)
-    ∙ ap (λ o. with_value o (λ size. texts_by (listed_texts t.states t.side size t.delta t.rows t.keep))) (size_back t are)
+    ap (λ o. with_value o (λ side. with_value (size_in listed_size_limit (decimal_value (decimal t.size))) (λ size. texts_by (listed_texts t.states side size t.delta t.rows t.keep)))) (side_back t.side)
+    ∙ ap (λ o. with_value o (λ size. texts_by (listed_texts t.states t.side size t.delta t.rows t.keep))) (size_back listed_size_limit t.size (omega arith) are.within.some are.within.small)
     ∙ texts_back t are
 
 read_given : (t : ListedTexts) → IsTrue (is_some (automata_of_texts t)) → (a : ListedAutomata) × AreRead t a

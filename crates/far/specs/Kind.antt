@@ -15,10 +15,10 @@ use Rattle.far.specs.Automata.{Automata, AreAutomata, AreSized, AreAutomataOf, d
 use Rattle.far.specs.Texts.{delta_text, rows_text, hex_text, automata_by}
 use Rattle.far.specs.Tests.{are_texts}
 
--- a size of automata
-abbrev pub size_in : Option ℕ → Option ℕ
-size_in None = None
-size_in (Some m) = if not (nat_lt m 1) && not (nat_lt size_limit m) then Some m else None
+-- a size of automata, up to the largest
+abbrev pub size_in : ℕ → Option ℕ → Option ℕ
+size_in most None = None
+size_in most (Some m) = if not (nat_lt m 1) && not (nat_lt most m) then Some m else None
 
 -- three texts of numbers, for tables of n states
 abbrev pub numbers_by : ℕ → Dir → ℕ → List ℕ → List ℕ → List ℕ → Result Automata FieldFault
@@ -28,7 +28,7 @@ numbers_by n side size delta rows keep = if are_texts n size delta rows keep the
 -- a side, a size and three texts of numbers, for a table of n states
 abbrev pub far_by : ℕ → List (List ℕ) → Result Automata FieldFault
 far_by n (side ∷ (size ∷ (delta ∷ (rows ∷ (keep ∷ []))))) =
-    with_value (side_of side) (λ side. with_value (size_in (decimal_value size))
+    with_value (side_of side) (λ side. with_value (size_in size_limit (decimal_value size))
     (λ size. numbers_by n side size delta rows keep))
 far_by n fields = Err BadKind
 

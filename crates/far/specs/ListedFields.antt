@@ -1,18 +1,14 @@
 -- The fields of a record of automata: how they are read and written.
-use Rattle.std.specs.Prelude.{ℕ, ◌+◌, ◌≤◌, ◌&&◌, not, nat_lt, if◌then◌else◌, IsTrue, is_some, List, [], ◌∷◌, Option, Some, None, Result, Ok, Err, length, decimal}
+use Rattle.std.specs.Prelude.{ℕ, ◌+◌, ◌≤◌, nat_lt, if◌then◌else◌, IsTrue, is_some, List, [], ◌∷◌, Result, Ok, Err, length, decimal}
 use Rattle.machine_text.specs.Limits.{state_limit}
 use Rattle.kind_evidence.specs.Side.{side_of, side_text}
 use Rattle.text.specs.Decimal.{decimal_value}
 use Rattle.text.specs.Fields.{with_value}
 use Rattle.text.specs.declared.fields.FieldFault.{FieldFault}
 use Rattle.text.specs.declared.fields.FieldFault.TheVariants.{BadKind, BadList, TooLong}
+use Rattle.far.specs.Kind.{size_in}
 use Rattle.far.specs.Limits.{listed_size_limit, listed_byte_limit}
 use Rattle.far.specs.ListedTexts.{ListedTexts, listed_texts, automata_of_texts}
-
--- a size of automata
-abbrev pub listed_size_in : Option ℕ → Option ℕ
-listed_size_in None = None
-listed_size_in (Some m) = if not (nat_lt m 1) && not (nat_lt listed_size_limit m) then Some m else None
 
 -- three texts: how long they are together is judged before any of them
 abbrev pub texts_by : ListedTexts → Result ListedTexts FieldFault
@@ -25,7 +21,7 @@ texts_by t =
 -- a side, a size and three texts, for a table of n states
 abbrev pub listed_by : ℕ → List (List ℕ) → Result ListedTexts FieldFault
 listed_by n (side ∷ (size ∷ (delta ∷ (rows ∷ (keep ∷ []))))) =
-    with_value (side_of side) (λ side. with_value (listed_size_in (decimal_value size))
+    with_value (side_of side) (λ side. with_value (size_in listed_size_limit (decimal_value size))
     (λ size. texts_by (listed_texts n side size delta rows keep)))
 listed_by n fields = Err BadKind
 

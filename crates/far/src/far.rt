@@ -5,7 +5,6 @@ ghost use Rattle.far.specs.Limits.{size_limit};
 ghost use Rattle.far.specs.Automata.{AreAutomata, AreSized};
 ghost use Rattle.far.specs.Texts.{AreTexts};
 
-use crate::limits::MAX_SIZE;
 use crate::unpacked::Unpacked;
 use kind_evidence::{Evidence, Refused, Verdict};
 use machine_text::{Dir, Table};
@@ -33,13 +32,6 @@ impl<'a> Far<'a> {
     ghost use Rattle.far.specs.Texts.{automata_by, delta_text, rows_text, hex_text};
     ghost use Rattle.far.specs.Automata.{AreAutomataOf};
     ghost use Rattle.far.specs.Far.{automata_of};
-
-    /// Whether the first automaton may have this size: from 1 to `MAX_SIZE`.
-    pub fn is_size(size: u64) -> bool
-        ensures { IsTrue result ↔ ((1 ≤ size) × (size ≤ size_limit)) }
-    {
-        1 <= size && size <= MAX_SIZE as u64
-    }
 
     /// The automata that three texts give, for tables of so many states: where the first one goes, digit by digit;
     /// the edges of the second, and what is kept, in hexadecimal. None where a text isn't such numbers. Takes no

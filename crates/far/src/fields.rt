@@ -1,14 +1,16 @@
 // Automata as the fields of a record.
-ghost use Rattle.std.specs.Prelude.{◌≡◌, ◌++◌, ◌≤◌, Some, None, OnOk, IfOk, IfErr, length, take};
+ghost use Rattle.std.specs.Prelude.{◌≡◌, ◌++◌, ◌∷◌, [], ◌≤◌, Some, None, OnOk, IfOk, IfErr, decimal, length, take};
 ghost use Rattle.machine_text.specs.Limits.{state_limit};
+ghost use Rattle.kind_evidence.specs.Side.{side_text};
 ghost use Rattle.text.specs.Decimal.{decimal_value};
 ghost use Rattle.text.specs.Fields.{spaced, made_of};
 ghost use Rattle.far.specs.Automata.{AreAutomata, AreSized};
 ghost use Rattle.far.specs.Far.{automata_of};
-ghost use Rattle.far.specs.Kind.{size_in, numbers_by, far_by, number_fields, far_fields};
+ghost use Rattle.far.specs.Kind.{size_in, numbers_by, far_by, far_fields};
 ghost use Rattle.far.specs.Limits.{size_limit};
 
 use crate::far::Far;
+use crate::limits::MAX_SIZE;
 use kind_evidence::{NoMemory, side_of, side_text};
 use machine_text::Dir;
 use text::{FieldFault, Parts, append_field, append_number_field, end_of, next_field, number_in};
@@ -27,7 +29,7 @@ impl<'a> Far<'a> {
         let keep = next_field(&mut fields)?;
         end_of(fields)?;
         let side = side_of(side).ok_or(FieldFault::BadNumber)?;
-        let size = size_from(size)?;
+        let size = size_in(size, u64::from(MAX_SIZE))? as u8;
         numbers_from(states, side, size, delta, rows, keep)
     }
 }
@@ -42,30 +44,46 @@ impl Far<'_> {
     {
         // The proof needs that the numbers are those of automata, within their limits.
         let _ = self.states();
-        append_field(side_text(self.side()), out)?;
-        append_number_field(u64::from(self.size()), out)?;
-        self.append_numbers(out)
-    }
-
-    // Appends the numbers from delta on.
-    fn append_numbers(&self, out: &mut Vec<u8>) -> Result<(), NoMemory>
-        ensures ok { OnOk result (out.new.items ≡ out.old.items ++ spaced (number_fields (automata_of self.now))) }
-        ensures kept { take (length out.old.items) out.new.items ≡ out.old.items }
-    {
-        append_field(self.delta(), out)?;
-        append_field(self.rows(), out)?;
-        append_field(self.keep(), out)
+        append_texts(
+            self.side(),
+            u64::from(self.size()),
+            self.delta(),
+            self.rows(),
+            self.keep(),
+            out,
+        )
     }
 }
 
-// The size of automata that a field names.
-fn size_from(field: &[u8]) -> Result<u8, FieldFault>
-    ensures ok { IfOk result (λ m. (size_in (decimal_value field.now) ≡ Some m) × (1 ≤ m) × (m ≤ size_limit)) }
-    ensures err { IfErr result (λ fault. (fault ≡ FieldFault.BadNumber) × (size_in (decimal_value field.now) ≡ None)) }
+// Appends a side, a size and the texts of automata, each behind a space.
+pub(crate) fn append_texts(
+    side: Dir,
+    size: u64,
+    delta: &[u8],
+    rows: &[u8],
+    keep: &[u8],
+    out: &mut Vec<u8>,
+) -> Result<(), NoMemory>
+    ensures ok { OnOk result (out.new.items ≡ out.old.items
+        ++ spaced (side_text side ∷ (decimal size ∷ (delta.now ∷ (rows.now ∷ (keep.now ∷ [])))))) }
+    ensures kept { take (length out.old.items) out.new.items ≡ out.old.items }
+{
+    append_field(side_text(side), out)?;
+    append_number_field(size, out)?;
+    append_field(delta, out)?;
+    append_field(rows, out)?;
+    append_field(keep, out)
+}
+
+// The size of automata that a field names, up to the largest.
+pub(crate) fn size_in(field: &[u8], most: u64) -> Result<u64, FieldFault>
+    ensures ok { IfOk result (λ m. (size_in most (decimal_value field.now) ≡ Some m) × (1 ≤ m) × (m ≤ most)) }
+    ensures err { IfErr result (λ fault. (fault ≡ FieldFault.BadNumber)
+        × (size_in most (decimal_value field.now) ≡ None)) }
 {
     let size = number_in(field)?;
-    if Far::is_size(size) {
-        Ok(size as u8)
+    if 1 <= size && size <= most {
+        Ok(size)
     } else {
         Err(FieldFault::BadNumber)
     }

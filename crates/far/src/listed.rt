@@ -5,8 +5,8 @@ ghost use Rattle.far.specs.Limits.{listed_size_limit, listed_byte_limit};
 ghost use Rattle.far.specs.ListedTexts.{automata_in};
 
 use crate::limits::{MAX_LISTED_BYTES, MAX_LISTED_SIZE};
-use crate::testing::are_texts;
 use crate::listed_unpacked::Unpacked;
+use crate::testing::are_texts;
 use itoa::Buffer;
 use kind_evidence::{Evidence, NoMemory, Refused, Verdict};
 use machine_text::{Dir, Table};

@@ -1,17 +1,18 @@
 // Automata as the fields of a record.
-ghost use Rattle.std.specs.Prelude.{◌≡◌, ◌++◌, ◌≤◌, Some, None, OnOk, IfOk, IfErr, length, take};
+ghost use Rattle.std.specs.Prelude.{◌≡◌, ◌++◌, ◌≤◌, OnOk, length, take};
 ghost use Rattle.machine_text.specs.Limits.{state_limit};
-ghost use Rattle.text.specs.Decimal.{decimal_value};
 ghost use Rattle.text.specs.Fields.{spaced, made_of};
-ghost use Rattle.far.specs.ListedFields.{listed_size_in, texts_by, listed_by, listed_fields, AreListedTexts};
+ghost use Rattle.far.specs.ListedFields.{texts_by, listed_by, listed_fields, AreListedTexts};
 ghost use Rattle.far.specs.Limits.{listed_size_limit};
 ghost use Rattle.far.specs.ListedTexts.{listed_texts};
 ghost use Rattle.far.specs.Listed.{texts_of};
 
+use crate::fields::{append_texts, size_in};
+use crate::limits::MAX_LISTED_SIZE;
 use crate::listed::Listed;
-use kind_evidence::{NoMemory, side_of, side_text};
+use kind_evidence::{NoMemory, side_of};
 use machine_text::Dir;
-use text::{FieldFault, Parts, append_field, append_number_field, end_of, next_field, number_in};
+use text::{FieldFault, Parts, end_of, next_field};
 
 impl<'a> Listed<'a> {
     /// The claim that the fields of a record make, for a table of so many states: `side m delta rows keep`. Takes
@@ -27,7 +28,7 @@ impl<'a> Listed<'a> {
         let keep = next_field(&mut fields)?;
         end_of(fields)?;
         let side = side_of(side).ok_or(FieldFault::BadNumber)?;
-        let size = size_from(size)?;
+        let size = size_in(size, u64::from(MAX_LISTED_SIZE))? as u16;
         texts_from(states, side, size, delta, rows, keep)
     }
 
@@ -38,26 +39,14 @@ impl<'a> Listed<'a> {
         ensures writable { OnOk result (AreListedTexts (texts_of self.now)) }
         ensures kept { take (length out.old.items) out.new.items ≡ out.old.items }
     {
-        append_field(side_text(self.side), out)?;
-        append_number_field(u64::from(self.size), out)?;
-        append_field(self.delta, out)?;
-        append_field(self.rows, out)?;
-        append_field(self.keep, out)
-    }
-}
-
-// The size of automata that a field names.
-fn size_from(field: &[u8]) -> Result<u16, FieldFault>
-    ensures ok { IfOk result (λ m. (listed_size_in (decimal_value field.now) ≡ Some m) × (1 ≤ m)
-        × (m ≤ listed_size_limit)) }
-    ensures err { IfErr result (λ fault. (fault ≡ FieldFault.BadNumber)
-        × (listed_size_in (decimal_value field.now) ≡ None)) }
-{
-    let size = number_in(field)?;
-    if Listed::is_size(size) {
-        Ok(size as u16)
-    } else {
-        Err(FieldFault::BadNumber)
+        append_texts(
+            self.side,
+            u64::from(self.size),
+            self.delta,
+            self.rows,
+            self.keep,
+            out,
+        )
     }
 }
 

@@ -6,9 +6,9 @@ ghost use Rattle.far.specs.Limits.{listed_pair_limit};
 ghost use Rattle.far.specs.inside.ListedSteps.{LeadsInto, LeadInto, GoesAhead, PairFits, EachPairFits, all_moves, BackOver, GoesBack, FitsBack, EachFitsBack, AreSeen, BlankIsKept};
 ghost use Rattle.far.specs.inside.ListedUnpacked.{numbers_of_unpacked};
 
+use crate::listed_unpacked::Unpacked;
 use crate::moves::Move;
 use crate::search::{has, is_part};
-use crate::listed_unpacked::Unpacked;
 use kind_evidence::NoMemory;
 use machine_text::{Dir, Entry, State, Sym, Table};
 use std::alloc::Global;

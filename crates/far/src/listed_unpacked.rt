@@ -4,8 +4,8 @@ ghost use Rattle.machine_text.specs.Limits.{state_limit};
 ghost use Rattle.far.specs.Limits.{listed_size_limit, listed_pair_limit};
 ghost use Rattle.far.specs.ListedAutomata.{listed_automata, AreListed, AreOfSize};
 
-use crate::lists::Lists;
 use crate::listed_reading::{numbers_of, rows_of};
+use crate::lists::Lists;
 use kind_evidence::NoMemory;
 use machine_text::{Dir, Table};
 use std::alloc::Global;

@@ -1,5 +1,5 @@
 -- Where an offered record stands, and what becomes of it.
-use Rattle.std.proofs.Common.{◌≡◌, ℕ, List, [], ◌∷◌, ◌++◌, Option, Some, None, option_map, IsSome, inl, inr, ◌⊎◌, Result, Ok, Err, IfOk, IfErr, OnErr, refl, sym, ap, subst}
+use Rattle.std.proofs.Common.{◌≡◌, ℕ, List, Option, Some, None, option_map, IsSome, inl, inr, ◌⊎◌, Result, Ok, Err, IfOk, IfErr, OnErr, refl, sym, ap, subst}
 use Rattle.machine_text.specs.Packed.{Packed}
 use Rattle.kind_evidence.specs.declared.verdicts.Ending.{Ending}
 use Rattle.kind_evidence.specs.declared.verdicts.Ending.TheVariants.{Halts, Never}
@@ -7,14 +7,15 @@ use Rattle.law_tree.specs.Closed.{IsVerdict, IsOpen}
 use Rattle.cert.specs.Claim.{Claim, Recorded, ending_by}
 use Rattle.ledger.specs.Records.{claim_in, mark_in, mark_of, mark_by}
 use Rattle.cert.specs.Scored.{with_score}
-use Rattle.ledger.specs.Held.{IsFit, IsHoldout, Resolves, resolved}
 use Rattle.ledger.specs.Offers.{IsJudged, OfferGives}
 use Rattle.ledger.specs.inside.Open.{IsOpener}
 use Rattle.ledger.specs.inside.Places.{IsWhyRefused, IsFooting, footing_by}
 use Rattle.ledger.specs.declared.footing.Footing.{Footing}
-use Rattle.ledger.specs.declared.footing.Footing.TheVariants.{Open, Elsewhere}
+use Rattle.ledger.specs.declared.footing.Footing.TheVariants.{Waiting as IsWaiting, Elsewhere}
+use Rattle.ledger.specs.declared.waiting.Waiting.{Waiting}
+use Rattle.ledger.specs.declared.waiting.Waiting.TheVariants.{Open, Holdout}
+use Rattle.ledger.specs.inside.Waiting.{WaitsFor, TakesAs, put_by}
 use Rattle.ledger.specs.declared.taken.Taken.{Taken}
-use Rattle.ledger.specs.declared.taken.Taken.TheVariants.{New, Settled}
 use Rattle.ledger.specs.declared.faults.OfferFault.{OfferFault}
 use Rattle.ledger.specs.declared.faults.OfferFault.TheVariants.{WrongSize, NotOpen, Refused as IsRefused, NoMemory}
 
@@ -31,7 +32,7 @@ pub stands_recorded : (root : Packed) (rs : List Recorded) (r : Recorded) (c : C
 stands_recorded root rs r c place claimed is = subst (IsFooting root rs r) (sym is) (by_shown root rs r (ending_by c) (ending_by r.claim) (ap (option_map mark_of) claimed) refl)
 
 pub stands_unrecorded : (root : Packed) (rs : List Recorded) (r : Recorded) (place : Footing) → claim_in rs r.table ≡ None
-    → ((opener : ℕ) × IsOpen root (mark_in rs) r.table × IsOpener root rs r.table opener × (place ≡ Open opener))
+    → ((opener : ℕ) × IsOpen root (mark_in rs) r.table × IsOpener root rs r.table opener × (place ≡ IsWaiting (Open opener)))
     ⊎ ((IsOpen root (mark_in rs) r.table → ⊥) × (place ≡ Elsewhere))
     → IsFooting root rs r place
 stands_unrecorded root rs r place none (inl h) = subst (IsFooting root rs r) (sym h.3) (h.1, h.2)
@@ -43,14 +44,10 @@ refusal_gives root old new r NotOpen refusal judged same = absurd refusal
 refusal_gives root old new r (IsRefused f) refusal judged same = (judged, refusal, same)
 refusal_gives root old new r NoMemory refusal judged same = (judged, same)
 
-pub take_gives : (root : Packed) (old new : List Recorded) (r : Recorded) (result : Result Taken OfferFault) → IsOpen root (mark_in old) r.table
-    → IfOk result (λ (t : Taken). (t ≡ New) × IsFit root old r × (new ≡ old ++ (with_score r ∷ [])))
+pub take_gives : (root : Packed) (old new : List Recorded) (r : Recorded) (waiting : Waiting) (result : Result Taken OfferFault) → WaitsFor root old r waiting
+    → IfOk result (λ (t : Taken). TakesAs waiting root old r t × (new ≡ put_by waiting old (with_score r)))
     → OnErr result (new ≡ old) → IfErr result (λ (f : OfferFault). IsWhyRefused f r) → OfferGives root old r result new
-take_gives root old new r (Ok t) is_open ok same refusal = subst (λ (x : Taken). OfferGives root old r (Ok x) new) (sym ok.0) (ok.1, ok.2)
-take_gives root old new r (Err f) is_open ok same refusal = refusal_gives root old new r f refusal (record { is = inl is_open }) same
-
-pub settle_gives : (root : Packed) (old new : List Recorded) (r : Recorded) (result : Result Taken OfferFault) → IsHoldout old r.table × IsSome (ending_by r.claim)
-    → IfOk result (λ (t : Taken). (t ≡ Settled) × Resolves old r × (new ≡ resolved old (with_score r)))
-    → OnErr result (new ≡ old) → IfErr result (λ (f : OfferFault). IsWhyRefused f r) → OfferGives root old r result new
-settle_gives root old new r (Ok t) holdout ok same refusal = subst (λ (x : Taken). OfferGives root old r (Ok x) new) (sym ok.0) (ok.1, ok.2)
-settle_gives root old new r (Err f) holdout ok same refusal = refusal_gives root old new r f refusal (record { is = inr holdout }) same
+take_gives root old new r (Open opener) (Ok t) waits ok same refusal = subst (λ (x : Taken). OfferGives root old r (Ok x) new) (sym ok.0.0) (ok.0.1, ok.1)
+take_gives root old new r Holdout (Ok t) waits ok same refusal = subst (λ (x : Taken). OfferGives root old r (Ok x) new) (sym ok.0.0) (ok.0.1, ok.1)
+take_gives root old new r (Open opener) (Err f) waits ok same refusal = refusal_gives root old new r f refusal (record { is = inl waits.0 }) same
+take_gives root old new r Holdout (Err f) waits ok same refusal = refusal_gives root old new r f refusal (record { is = inr waits }) same

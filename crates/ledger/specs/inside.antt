@@ -7,3 +7,4 @@ pub mod Trees
 pub mod Places
 pub mod HeaderRead
 pub mod Taking
+pub mod Waiting

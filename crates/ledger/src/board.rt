@@ -21,11 +21,9 @@ use crate::counts::Counts;
 use crate::faults::{BoardFault, OfferFault};
 use crate::footing::{Footing, recorded_footing};
 use crate::format::Format;
-use crate::index::{
-    certificate_for, pair_for, place_and_count_of, place_of, tree_count_of, verdict_in,
-};
+use crate::index::{certificate_for, pair_for, tree_count_of, verdict_in};
 use crate::open::Open;
-use crate::open_tables::{only, open_children, opener_place};
+use crate::open_tables::{close, only, open_children, opener_place};
 use crate::records::Records;
 use crate::selected::{
     listed_tables, sorted_tables, tables_with, tables_with_ones, undecided_tables,
@@ -35,6 +33,7 @@ use crate::stored_record::{Judging, StoredRecord};
 use crate::taken::Taken;
 use crate::tally::Tally;
 use crate::tree_count::{TreeChange, TreeCount};
+use crate::waiting::Waiting;
 use cert::{Record, standing_claims_are_true};
 use indexmap::IndexMap;
 use kind_evidence::{NoMemory, Verdict};
@@ -87,17 +86,17 @@ impl Model for Board {
 }
 
 impl Board {
-    ghost use Rattle.std.specs.Prelude.{[], ◌∷◌, ◌++◌, OnOk, OnErr, IfErr, ◌⊎◌, IsSome};
+    ghost use Rattle.std.specs.Prelude.{[], OnErr, IfErr, ◌⊎◌, IsSome};
     ghost use Rattle.law_tree.specs.Closed.{IsOpen};
-    ghost use Rattle.cert.specs.Claim.{ending_by};
     ghost use Rattle.cert.specs.Certified.{IsCertified};
-    ghost use Rattle.cert.specs.Kinds.{claim_of, recorded};
+    ghost use Rattle.cert.specs.Kinds.{recorded};
     ghost use Rattle.cert.specs.Scored.{with_score};
     ghost use Rattle.ledger.specs.Records.{claim_in, mark_in, verdict_in};
-    ghost use Rattle.ledger.specs.Held.{IsFit, IsHoldout, Resolves, resolved};
+    ghost use Rattle.ledger.specs.Held.{IsHoldout};
     ghost use Rattle.ledger.specs.Offers.{KeepsTree, OfferGives};
     ghost use Rattle.ledger.specs.inside.Open.{IsOpener};
     ghost use Rattle.ledger.specs.inside.Places.{IsJudgedSo, IsWhyRefused};
+    ghost use Rattle.ledger.specs.inside.Waiting.{WaitsFor, TakesAs, put_by};
     ghost use Rattle.ledger.specs.inside.Trees.{IsTreeCount};
 
     /// A board of the tree of a root, without records, of version 2. The root must name its states in order.
@@ -392,8 +391,7 @@ impl Board {
         match footing {
             Footing::Known => Ok(Taken::Known),
             Footing::Elsewhere => Err(OfferFault::NotOpen),
-            Footing::Open { opener } => self.take(r, judging, opener),
-            Footing::Holdout => self.resolve(r, judging),
+            Footing::Waiting(waiting) => self.take(r, judging, waiting),
         }
     }
 
@@ -410,29 +408,29 @@ impl Board {
     // Where a table without a record stands.
     fn unrecorded_footing(&self, t: &Table) -> Footing
         ensures { ((opener : ℕ) × IsOpen self.now.root (mark_in self.now.records) t.now
-            × IsOpener self.now.root self.now.records t.now opener × (result ≡ Footing.Open opener))
+            × IsOpener self.now.root self.now.records t.now opener × (result ≡ Footing.Waiting (Waiting.Open opener)))
             ⊎ ((IsOpen self.now.root (mark_in self.now.records) t.now → ⊥) × (result ≡ Footing.Elsewhere)) }
     {
         match self.open_tables.get(t) {
-            Some(opener) => Footing::Open { opener: *opener },
+            Some(opener) => Footing::Waiting(Waiting::Open { opener: *opener }),
             None => Footing::Elsewhere,
         }
     }
 
-    // Takes a record of an open table, which the record at this place opened.
-    fn take(&mut self, r: &Record, judging: Judging, opener: u32) -> Result<Taken, OfferFault>
-        requires is_open { IsOpen self.old.root (mark_in self.old.records) r.now.table }
-        requires opener { IsOpener self.old.root self.old.records r.now.table opener }
+    // Takes a record of a table that waits for it.
+    fn take(&mut self, r: &Record, judging: Judging, waiting: Waiting) -> Result<Taken, OfferFault>
+        requires waits { WaitsFor self.old.root self.old.records (recorded r.now) waiting }
         requires judged { IsJudgedSo judging (recorded r.now) }
-        ensures ok { IfOk result (λ taken. (taken ≡ Taken.New) × IsFit self.old.root self.old.records (recorded r.now)
-            × (self.new.records ≡ self.old.records ++ (with_score (recorded r.now) ∷ []))) }
+        ensures ok { IfOk result (λ taken. TakesAs waiting self.old.root self.old.records (recorded r.now) taken
+            × (self.new.records ≡ put_by waiting self.old.records (with_score (recorded r.now)))) }
         ensures err { OnErr result (self.new.records ≡ self.old.records) }
         ensures root { self.new.root ≡ self.old.root }
         ensures format { self.new.format ≡ self.old.format }
         ensures refusal { IfErr result (λ f. IsWhyRefused f (recorded r.now)) }
     {
         child_is_table();
-        let stored = StoredRecord::of(self.alloc, r, judging, opener, TreeCount::first())?;
+        let slot = waiting.slot(&self.records, &r.table);
+        let stored = StoredRecord::of(self.alloc, r, judging, slot.parent, slot.tree)?;
         let held = Record {
             table: r.table,
             certificate: stored.certificate.lent(),
@@ -440,8 +438,7 @@ impl Board {
         let opened = child_count(&held, stored.halts_on);
         let shown = held.certificate.ending();
         let score = held.certificate.ones();
-        let count = self.records.len();
-        let place = opener_place(count)?;
+        let place = opener_place(slot.place)?;
         // The proof needs how many open tables there can be.
         let _ = self.open_tables.len();
         self.records.reserve(1)?;
@@ -457,60 +454,10 @@ impl Board {
             Ok(_) => {}
             Err(_) => unreachable!(),
         }
-        change_chain(
-            &mut self.records,
-            place,
-            TreeChange::of_taking(opened, shown, score),
-        );
-        self.open_tables.remove(&r.table);
-        self.counts = self.counts.with(shown, score);
-        Ok(Taken::New)
-    }
-
-    // Takes a record with a verdict on a holdout.
-    fn resolve(&mut self, r: &Record, judging: Judging) -> Result<Taken, OfferFault>
-        requires holdout { IsHoldout self.old.records r.now.table }
-        requires verdict { IsSome (ending_by (claim_of r.now.certificate)) }
-        requires judged { IsJudgedSo judging (recorded r.now) }
-        ensures ok { IfOk result (λ taken. (taken ≡ Taken.Settled) × Resolves self.old.records (recorded r.now)
-            × (self.new.records ≡ resolved self.old.records (with_score (recorded r.now)))) }
-        ensures err { OnErr result (self.new.records ≡ self.old.records) }
-        ensures root { self.new.root ≡ self.old.root }
-        ensures format { self.new.format ≡ self.old.format }
-        ensures refusal { IfErr result (λ f. IsWhyRefused f (recorded r.now)) }
-    {
-        child_is_table();
-        let (parent, tree) = place_and_count_of(&self.records, &r.table);
-        let stored = StoredRecord::of(self.alloc, r, judging, parent, tree)?;
-        let held = Record {
-            table: r.table,
-            certificate: stored.certificate.lent(),
-        };
-        let opened = child_count(&held, stored.halts_on);
-        let shown = held.certificate.ending();
-        let score = held.certificate.ones();
-        let found = place_of(&self.records, &r.table);
-        let place = opener_place(found)?;
-        // The proof needs how many open tables there can be.
-        let _ = self.open_tables.len();
-        open_children(
-            &mut self.open_tables,
-            &self.records,
-            &held,
-            place,
-            stored.halts_on,
-        )?;
-        // From here on nothing is refused: the table has its place.
-        match self.records.insert(r.table, stored) {
-            Ok(_) => {}
-            Err(_) => unreachable!(),
-        }
-        change_chain(
-            &mut self.records,
-            place,
-            TreeChange::of_resolving(opened, shown, score),
-        );
-        self.counts = self.counts.without_holdout().with(shown, score);
-        Ok(Taken::Settled)
+        let change = TreeChange::of(waiting, opened, shown, score);
+        change_chain(&mut self.records, place, change);
+        close(&mut self.open_tables, &r.table, waiting);
+        self.counts = self.counts.without(waiting).with(shown, score);
+        Ok(waiting.taken())
     }
 }

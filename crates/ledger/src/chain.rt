@@ -1,6 +1,6 @@
 // The chain of the places of parents, from a record up to that of the root.
 ghost use Rattle.std.specs.Prelude.{◌≡◌, length};
-ghost use Rattle.ledger.specs.inside.Changing.{AreChanged, AreEarlier, ChainMayChange, HasChain};
+ghost use Rattle.ledger.specs.inside.Changing.{AreChanged, CarriesUp};
 
 use crate::open_tables::NO_PLACE;
 use crate::stored_record::StoredRecord;
@@ -15,9 +15,7 @@ pub(crate) fn change_chain(
     from: u32,
     change: TreeChange,
 )
-    requires there { HasChain records.old.entries from }
-    requires earlier { AreEarlier records.old.entries }
-    requires room { ChainMayChange records.old.entries from change }
+    requires { CarriesUp records.old.entries from change }
     ensures changed { AreChanged change records.old.entries from records.new.entries }
     ensures length { length records.new.entries ≡ length records.old.entries }
 {

@@ -1,7 +1,9 @@
 // The numbers of a board's records of each kind, kept with them.
-ghost use Rattle.std.specs.Prelude.{◌≡◌, ℕ, ◌<◌, ◌^◌, None};
-ghost use Rattle.ledger.specs.inside.Counting.{with_shown, without_holdout, greater};
+ghost use Rattle.std.specs.Prelude.{◌≡◌, ◌<◌, None};
+ghost use Rattle.ledger.specs.inside.Counting.{with_shown, greater, HaveRoom};
+ghost use Rattle.ledger.specs.inside.Waiting.{counts_without};
 
+use crate::waiting::Waiting;
 use kind_evidence::Ending;
 
 // How many records there are of each kind, and the greatest number of steps and the greatest score of those that say
@@ -31,9 +33,7 @@ impl Counts {
 
     // The counts with one more record, by what it shows and its score.
     pub fn with(self, shown: Option<Ending>, ones: Option<u64>) -> Counts
-        requires halting { self.halting < 2 ^ 63 }
-        requires never { self.never < 2 ^ 63 }
-        requires undecided { self.undecided < 2 ^ 63 }
+        requires { HaveRoom self }
         ensures { result ≡ with_shown self shown ones }
     {
         let ones = greater(self.ones, ones);
@@ -57,14 +57,17 @@ impl Counts {
         }
     }
 
-    // The counts with a holdout less.
-    pub fn without_holdout(self) -> Counts
-        requires { 0 < self.undecided }
-        ensures { result ≡ without_holdout self }
+    // The counts without the record that goes where one is taken: that of a holdout.
+    pub fn without(self, waiting: Waiting) -> Counts
+        requires { waiting ≡ Waiting.Holdout → 0 < self.undecided }
+        ensures { result ≡ counts_without waiting self }
     {
-        Counts {
-            undecided: self.undecided - 1,
-            ..self
+        match waiting {
+            Waiting::Open { .. } => self,
+            Waiting::Holdout => Counts {
+                undecided: self.undecided - 1,
+                ..self
+            },
         }
     }
 }

@@ -4,16 +4,15 @@ ghost use Rattle.cert.specs.Claim.{ending_by};
 ghost use Rattle.cert.specs.Kinds.{claim_of};
 ghost use Rattle.ledger.specs.inside.Places.{footing_by};
 
+use crate::waiting::Waiting;
 use cert::Certificate;
 
 #[derive(Clone, Copy)]
 pub(crate) enum Footing {
     // its table has a verdict, or is a holdout and no verdict is offered
     Known,
-    // its table is open; the record at this place opened it
-    Open { opener: u32 },
-    // its table is a holdout, and a verdict is offered
-    Holdout,
+    // its table is open, or a holdout and a verdict is offered
+    Waiting(Waiting),
     // its table is neither
     Elsewhere,
 }
@@ -23,7 +22,7 @@ pub(crate) fn recorded_footing(held: &Certificate, offered: &Certificate) -> Foo
     ensures { result ≡ footing_by (ending_by (claim_of held.now)) (ending_by (claim_of offered.now)) }
 {
     match (held.ending(), offered.ending()) {
-        (None, Some(_)) => Footing::Holdout,
+        (None, Some(_)) => Footing::Waiting(Waiting::Holdout),
         _ => Footing::Known,
     }
 }

@@ -44,6 +44,7 @@ mod stored_record;
 mod taken;
 mod tally;
 mod tree_count;
+mod waiting;
 mod write_ledger;
 
 pub use board::{Board, Champions, Holdouts};

@@ -1,6 +1,6 @@
 // An offer together with the line that a ledger gains by it.
 ghost use Rattle.std.specs.Prelude.{◌≡◌};
-ghost use Rattle.cert.specs.Certified.{IsCertified, IsShownBy};
+ghost use Rattle.cert.specs.Certified.{IsShownBy};
 ghost use Rattle.cert.specs.Kinds.{recorded};
 ghost use Rattle.ledger.specs.LedgerText.{OffersLine};
 ghost use Rattle.ledger.specs.Offers.{IsJudged};
@@ -24,20 +24,8 @@ impl Board {
         self.put_line(r, Judging::Due, out)
     }
 
-    /// Offers a record that is certified already, as `offer_certified` does, and appends its line as `offer_line` does.
-    pub fn offer_certified_line(
-        &mut self,
-        r: &Record,
-        out: &mut Vec<u8>,
-    ) -> Result<Taken, OfferFault>
-        requires { IsCertified (recorded r.now) }
-        ensures { OffersLine (recorded r.now) result self.old out.old.items self.new out.new.items }
-    {
-        self.put_line(r, Judging::Done, out)
-    }
-
-    /// Offers a record that was judged, as a decider answers it with what it shows, as `offer_certified_line` does: nothing is
-    /// run again.
+    /// Offers a record that was judged, as a decider answers it with what it shows, as `offer_line` does: nothing is run
+    /// again.
     pub fn offer_judged_line(
         &mut self,
         r: &Record,
@@ -66,7 +54,7 @@ impl Board {
         match self.footing(r) {
             Footing::Known => Ok(Taken::Known),
             Footing::Elsewhere => Err(OfferFault::NotOpen),
-            footing @ (Footing::Open { .. } | Footing::Holdout) => {
+            footing @ Footing::Waiting(_) => {
                 let judged = judged_as(self.alloc(), r, judging)?;
                 self.put_judged(footing, r, judged, out)
             }

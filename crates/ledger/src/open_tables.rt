@@ -12,10 +12,12 @@ ghost use Rattle.ledger.specs.inside.Stored.{records_of};
 ghost use Rattle.ledger.specs.Records.{claim_in};
 ghost use Rattle.machine_text.specs.Order.{table_cmp};
 ghost use Rattle.ledger.specs.inside.Open.{others, AreChildrenAt, HasUnrecorded, IsNewChild};
+ghost use Rattle.ledger.specs.inside.Waiting.{ClosesTable};
 
 use crate::children::children_on;
 use crate::index::certificate_for;
 use crate::stored_record::StoredRecord;
+use crate::waiting::Waiting;
 use cert::Record;
 use indexmap::IndexMap;
 use kind_evidence::NoMemory;
@@ -138,6 +140,15 @@ fn open_new(tables: &mut BTreeMap<Table, u32>, t: Table, place: u32) -> Result<(
         tables.insert(t, place)?;
     }
     Ok(())
+}
+
+// Takes a table of which a record is taken out of the open ones, where it is one.
+pub(crate) fn close(tables: &mut BTreeMap<Table, u32>, t: &Table, waiting: Waiting)
+    ensures { ClosesTable waiting t.now tables.old tables.new }
+{
+    if let Waiting::Open { .. } = waiting {
+        tables.remove(t);
+    }
 }
 
 // Closes what was opened by the record at a place.

@@ -125,9 +125,6 @@ fn empty_board(alloc: Global, root: Table) -> Result<Board, NoMemory>
     requires { (u : ℕ) × InOrder u (entry_of root) }
     ensures { IfOk result (λ board. board ≡ record { root = root; records = []; format = Two }) }
 {
-    match Board::new(alloc, root) {
-        Ok(board) => Ok(board),
-        // the root is in order, so it was memory
-        Err(_) => Err(NoMemory),
-    }
+    // the root is in order, so what is refused is memory
+    Board::new(alloc, root).map_err(|_| NoMemory)
 }

@@ -1,9 +1,11 @@
 // What is kept of the tree of each recorded table, so that it needn't be walked to know what is left in it.
 ghost use Rattle.std.specs.Prelude.{◌≡◌, ◌↔◌, IsTrue};
 ghost use Rattle.ledger.specs.inside.Counting.{steps_of};
-ghost use Rattle.ledger.specs.inside.Changing.{changed_count, first_count, resolving_change, taking_change, MayChange};
+ghost use Rattle.ledger.specs.inside.Changing.{changed_count, first_count, MayChange};
+ghost use Rattle.ledger.specs.inside.Waiting.{change_of};
 
 use crate::counts::greater;
+use crate::waiting::Waiting;
 use kind_evidence::Ending;
 
 // How many tables of a table's tree are open, how many are holdouts, and the greatest number of steps and the greatest
@@ -68,33 +70,20 @@ impl TreeCount {
 }
 
 impl TreeChange {
-    // By the first record of an open table, which shows this, with this score, and opens so many children.
-    pub fn of_taking(opened: u64, shown: Option<Ending>, ones: Option<u64>) -> TreeChange
-        ensures { result ≡ taking_change opened shown ones }
+    // By a record that is taken of a waiting table, which shows this, with this score, and opens so many children.
+    pub fn of(waiting: Waiting, opened: u64, shown: Option<Ending>, ones: Option<u64>) -> TreeChange
+        ensures { result ≡ change_of waiting opened shown ones }
     {
-        let undecided = match shown {
-            None => 1,
-            Some(_) => 0,
+        let (closed, undecided, resolved) = match (waiting, shown) {
+            (Waiting::Open { .. }, None) => (1, 1, 0),
+            (Waiting::Open { .. }, Some(_)) => (1, 0, 0),
+            (Waiting::Holdout, _) => (0, 0, 1),
         };
         TreeChange {
             opened,
-            closed: 1,
+            closed,
             undecided,
-            resolved: 0,
-            steps: steps_of(shown),
-            ones,
-        }
-    }
-
-    // By the record that resolves a holdout, which shows this, with this score, and opens so many children.
-    pub fn of_resolving(opened: u64, shown: Option<Ending>, ones: Option<u64>) -> TreeChange
-        ensures { result ≡ resolving_change opened shown ones }
-    {
-        TreeChange {
-            opened,
-            closed: 0,
-            undecided: 0,
-            resolved: 1,
+            resolved,
             steps: steps_of(shown),
             ones,
         }

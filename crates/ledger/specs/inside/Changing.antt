@@ -72,6 +72,12 @@ abbrev pub ChainMayChange : List (Packed × StoredRecord) → ℕ → TreeChange
 ChainMayChange es from c = (i : ℕ) (e : Packed × StoredRecord) → OnChain es from i → slice_get es i ≡ Some e
     → MayChange e.1.tree c
 
+-- there is a chain from the place, and the change may be made on it
+pub record CarriesUp (es : List (Packed × StoredRecord)) (from : ℕ) (c : TreeChange) : Type 0 where
+  pub there : HasChain es from
+  pub earlier : AreEarlier es
+  pub room : ChainMayChange es from c
+
 -- an entry that counts a change, where its place is on the chain, or else is as it was
 abbrev pub counting : TreeChange → Packed × StoredRecord → Packed × StoredRecord
 counting c e = (e.0, record e.1 { tree = changed_count c e.1.tree })

@@ -1,5 +1,5 @@
 -- For the code: counts along lists of records.
-use Rattle.std.specs.Prelude.{◌≡◌, ℕ, ◌+◌, ◌-◌, Bool, true, false, nat_lt, nat_eq, if◌then◌else◌, List, [], Option, Some, None, filter, filter_map, length}
+use Rattle.std.specs.Prelude.{◌≡◌, ℕ, ◌+◌, ◌-◌, ◌<◌, ◌^◌, Bool, true, false, nat_lt, nat_eq, if◌then◌else◌, List, [], Option, Some, None, filter, filter_map, length}
 use Rattle.std.specs.Option.{is_none}
 use Rattle.machine_text.specs.Packed.{Packed}
 use Rattle.kind_evidence.specs.declared.verdicts.Ending.{Ending}
@@ -108,6 +108,10 @@ with_shown c (Some (Halts k)) ones = record {
   ones = greater
       c.ones ones;
 }
+
+-- one more of each may be counted
+abbrev pub HaveRoom : Counts → Type 0
+HaveRoom c = (c.halting < 2 ^ 63) × (c.never < 2 ^ 63) × (c.undecided < 2 ^ 63)
 
 -- the numbers without a holdout
 abbrev pub without_holdout : Counts → Counts

@@ -1,31 +1,19 @@
-use Rattle.std.proofs.Common.{◌≡◌, ℕ, ◌+◌, ◌<◌, ◌∷◌, [], not, nat_eq, refl, sym, ◌∙◌, ap, subst, List, map, filter, length, Contains}
+use Rattle.std.proofs.Common.{◌≡◌, ◌+◌, ◌<◌, not, refl, sym, ◌∙◌, ap, subst, List, map, length}
 use Rattle.std.proofs.lemmas.List.{length-map}
 use Rattle.machine_text.specs.Packed.{Packed}
 use Rattle.ledger.specs.Records.{same_table}
-use Rattle.leases.specs.Leases.{Lease, AreLeases}
-use Rattle.leases.specs.Asks.{IsFree, IsFirstFree, Grants}
-use Rattle.leases.specs.inside.Children.{ComesUnder}
-use Rattle.leases.specs.inside.Stored.{StoredLease, stored_lease, as_lease, as_leases, without, AreStored}
+use Rattle.leases.specs.Asks.{IsFree}
+use Rattle.leases.specs.inside.Stored.{StoredLease, stored_lease, as_lease, as_leases, without}
 use Rattle.leases.specs.declared.reply.Reply.TheVariants.{Stop, Later, Grant}
-use Rattle.leases.proofs.Asking.{own_ends, own_ended, refused_holds, below_next}
-use Rattle.leases.proofs.Ending.{filter_held, asks_by}
-use Rattle.leases.proofs.Granting.{grants, granted_leases, granted_stored}
-use Rattle.leases.proofs.DeadlineLaws.{without_not_ahead, same_not_ahead, granted_not_ahead}
+use Rattle.leases.proofs.Asking.{below_next, ended_kept, granted, granted_kept, none_kept, others_hold, own_ends, refused_holds}
+use Rattle.leases.proofs.Ending.{asks_by}
+use Rattle.leases.proofs.DeadlineLaws.{same_not_ahead}
 use Rattle.leases.proofs.leased_board.LeasedBoard.ask.Goals as goal
 
 pub invariant_of-self-then-not-has_open : goal.invariant_of-self-then-not-has_open
 invariant_of-self-then-not-has_open c =
-    let b = c.self.inside.board in
-    let ls = c.self.inside.live in
-    let own = c.of_worker-own.result in
-    let before = c.self.inside.came_under.entries in
-    let free = c.self.inside.free.tables in
-    let more = c.free_tables_of.new.free.tables in
-    let moment = c.self.inside.moment in
-    let given = c.self.inside.given in
-    let is = c.of_worker-own.ensures in
-    let freed = c.in_ok-free_tables_of.ensures in
-    (own_ended b c.args.id own ls c.end.new.self before before free more moment given is c.end.ensures refl freed.more freed.ok c.self.invariant.0, without_not_ahead own moment ls c.end.new.self c.end.ensures c.self.invariant.1)
+    ended_kept c.self.inside.board c.args.id c.of_worker-own.result c.self.inside.live c.self.inside.came_under.entries c.self.inside.free.tables c.free_tables_of.new.free.tables c.self.inside.moment c.self.inside.given
+    c.of_worker-own.ensures c.in_ok-free_tables_of.ensures.more c.in_ok-free_tables_of.ensures.ok c.self.invariant c.end.new.self c.end.ensures
 
 pub returns-then-not-has_open-clause-ok : goal.returns-then-not-has_open-clause-ok
 returns-then-not-has_open-clause-ok c =
@@ -34,19 +22,8 @@ returns-then-not-has_open-clause-ok c =
 
 pub invariant_of-self-then-not-may_grant : goal.invariant_of-self-then-not-may_grant
 invariant_of-self-then-not-may_grant c =
-    let b = c.self.inside.board in
-    let ls = c.self.inside.live in
-    let own = c.of_worker-own.result in
-    let before = c.self.inside.came_under.entries in
-    let free = c.self.inside.free.tables in
-    let more = c.free_tables_of.new.free.tables in
-    let moment = c.self.inside.moment in
-    let given = c.self.inside.given in
-    let is = c.of_worker-own.ensures in
-    let freed = c.in_ok-free_tables_of.ensures in (
-      own_ended b c.args.id own ls c.end-then-not-may_grant.new.self before before free more moment given is c.end-then-not-may_grant.ensures refl freed.more freed.ok c.self.invariant.0,
-      without_not_ahead own moment ls c.end-then-not-may_grant.new.self c.end-then-not-may_grant.ensures c.self.invariant.1,
-    )
+    ended_kept c.self.inside.board c.args.id c.of_worker-own.result c.self.inside.live c.self.inside.came_under.entries c.self.inside.free.tables c.free_tables_of.new.free.tables c.self.inside.moment c.self.inside.given
+    c.of_worker-own.ensures c.in_ok-free_tables_of.ensures.more c.in_ok-free_tables_of.ensures.ok c.self.invariant c.end-then-not-may_grant.new.self c.end-then-not-may_grant.ensures
 
 pub returns-then-not-may_grant-clause-ok : goal.returns-then-not-may_grant-clause-ok
 returns-then-not-may_grant-clause-ok c =
@@ -64,18 +41,9 @@ returns-then-not-may_grant-clause-ok c =
 
 pub first_free-requires : goal.first_free-requires
 first_free-requires c =
-    let b = c.self.inside.board in
-    let ls = c.self.inside.live in
-    let own = c.of_worker-own.result in
-    let before = c.self.inside.came_under.entries in
-    let free = c.self.inside.free.tables in
-    let more = c.free_tables_of.new.free.tables in
-    let moment = c.self.inside.moment in
-    let given = c.self.inside.given in
-    let is = c.of_worker-own.ensures in
-    let freed = c.in_ok-free_tables_of.ensures in
-    let holds = own_ended b c.args.id own ls (without own ls) before before free more moment given is refl refl freed.more freed.ok c.self.invariant.0 in
-    λ q free. holds.1.freed q free.0 free.1
+    let hold = others_hold c.self.inside.board c.args.id c.of_worker-own.result c.self.inside.live c.self.inside.came_under.entries c.self.inside.free.tables c.free_tables_of.new.free.tables c.self.inside.moment c.self.inside.given
+    c.of_worker-own.ensures c.in_ok-free_tables_of.ensures.more c.in_ok-free_tables_of.ensures.ok c.self.invariant c.self.inside.came_under.entries refl in
+    λ q free. hold.1.freed q free.0 free.1
 
 pub invariant_of-self-in_err-tables-in-Some : goal.invariant_of-self-in_err-tables-in-Some
 invariant_of-self-in_err-tables-in-Some c = (
@@ -104,83 +72,33 @@ invariant_of-self-in_err-replace-in-Some c = (
 pub invariant_of-self-in-Some : goal.invariant_of-self-in-Some
 unfolding same_table
 invariant_of-self-in-Some c =
-    let b = c.self.inside.board in
-    let ls = c.self.inside.live in
-    let own = c.of_worker-own.result in
-    let before = c.self.inside.came_under.entries in
-    let free = c.self.inside.free.tables in
-    let more = c.free_tables_of.new.free.tables in
-    let moment = c.self.inside.moment in
-    let given = c.self.inside.given in
-    let is = c.of_worker-own.ensures in
-    let freed = c.in_ok-free_tables_of.ensures in
-    let kept_ones = without own ls in
-    let t = c.in-Some.table in
-    let came = c.reserve.new.self.entries in
-    let next = c.insert.new.self.entries in
-    let rest = c.drop_first.new.self.tables in
-    let l : StoredLease = stored_lease (given + 1, record { id = c.args.id; renewed = moment; tables = c.in_ok-tables-in-Some.tables }) in
-    let same_came : came ≡ before = c.in_ok-reserve-in-Some.ensures.entries in
-    let update : ComesUnder came t (given + 1) next = λ q. c.in-Ok.ensures.updates.0 q in
-    let count : length (map as_lease kept_ones) ≡ c.len_without.result = length-map kept_ones as_lease ∙ sym c.len_without.ensures in
+    let l : StoredLease = stored_lease (c.self.inside.given + 1, record { id = c.args.id; renewed = c.self.inside.moment; tables = c.in_ok-tables-in-Some.tables }) in
+    let others = without c.of_worker-own.result c.self.inside.live in
+    let count : length (map as_lease others) ≡ c.len_without.result = length-map others as_lease ∙ sym c.len_without.ensures in
     let may = c.may_grant.ensures.0 c.if-not-may_grant.false in
-    let holds = own_ended b c.args.id own ls kept_ones before came free more moment given is refl same_came freed.more freed.ok c.self.invariant.0 in
-    let ended : map as_lease kept_ones ≡ filter (λ x. not (nat_eq x.id c.args.id)) (map as_lease ls) = ap (map as_lease) (own_ends c.args.id own ls kept_ones is refl) ∙ filter_held (λ (x : Lease). nat_eq x.id c.args.id) ls in
-    let tables : l.tables ≡ t ∷ [] = c.in_ok-tables-in-Some.ensures in
-    let left = subst (λ (came : List (Packed × ℕ)). (q : Packed) → IsFree b (as_leases kept_ones came 0 0) q → Contains c.first_free.new.free.tables q) (sym same_came) c.first_free.ensures.kept in (
-      subst (λ (items : List StoredLease). AreLeases b (as_leases items next moment (given + 1)) × AreStored b items next rest) (sym c.in_ok-replace-in-Some.ensures.ok) (
-        granted_leases b kept_ones came next moment given l t (map as_lease ls) holds.0 ended (subst (λ n. n < 4096) (sym count) may.0) refl c.in-Some.ensures.first.0.0 update,
-        granted_stored b kept_ones came next moment given l t more rest holds.0 holds.1 refl tables update (λ q free other. c.drop_first.ensures q (left q free) other),
-      ),
-      granted_not_ahead own moment ls c.replace.new.self l c.in_ok-replace-in-Some.ensures.ok refl c.self.invariant.1,
-    )
+    granted_kept c.self.inside.board c.args.id c.of_worker-own.result c.self.inside.live c.self.inside.came_under.entries c.self.inside.free.tables c.free_tables_of.new.free.tables c.self.inside.moment c.self.inside.given
+    c.of_worker-own.ensures c.in_ok-free_tables_of.ensures.more c.in_ok-free_tables_of.ensures.ok c.self.invariant c.reserve.new.self.entries c.insert.new.self.entries l c.in-Some.table c.replace.new.self c.in_ok-reserve-in-Some.ensures.entries refl refl refl
+    (λ q. c.in-Ok.ensures.updates.0 q) c.in_ok-replace-in-Some.ensures.ok
+    c.first_free.new.free.tables c.drop_first.new.self.tables (subst (λ n. n < 4096) (sym count) may.0) c.in-Some.ensures.first.0.0 c.in_ok-tables-in-Some.ensures c.first_free.ensures.kept c.drop_first.ensures
 
 pub invariant_of-self-in-None : goal.invariant_of-self-in-None
 invariant_of-self-in-None c =
-    let b = c.self.inside.board in
-    let ls = c.self.inside.live in
-    let own = c.of_worker-own.result in
-    let before = c.self.inside.came_under.entries in
-    let free = c.self.inside.free.tables in
-    let more = c.free_tables_of.new.free.tables in
-    let moment = c.self.inside.moment in
-    let given = c.self.inside.given in
-    let is = c.of_worker-own.ensures in
-    let freed = c.in_ok-free_tables_of.ensures in
-    let kept_ones = c.end-in-None.new.self in
-    let holds = own_ended b c.args.id own ls kept_ones before before free more moment given is c.end-in-None.ensures refl freed.more freed.ok c.self.invariant.0 in
-    let none = subst (λ (live : List StoredLease). (q : Packed) → IsFree b (as_leases live before 0 0) q → ⊥) (sym c.end-in-None.ensures) c.in-None.ensures.none in
-    ((holds.0, record { listed = holds.1.listed; freed = λ t is_open free. absurd (none t (is_open, free)) }), without_not_ahead own moment ls c.end-in-None.new.self c.end-in-None.ensures c.self.invariant.1)
+    none_kept c.self.inside.board c.args.id c.of_worker-own.result c.self.inside.live c.self.inside.came_under.entries c.self.inside.free.tables c.free_tables_of.new.free.tables c.self.inside.moment c.self.inside.given
+    c.of_worker-own.ensures c.in_ok-free_tables_of.ensures.more c.in_ok-free_tables_of.ensures.ok c.self.invariant c.end-in-None.new.self c.first_free.new.free.tables c.end-in-None.ensures c.in-None.ensures.none
 
 pub returns-in-Ok-clause-ok : goal.returns-in-Ok-clause-ok
 unfolding same_table
 returns-in-Ok-clause-ok c =
-    let b = c.self.inside.board in
-    let ls = c.self.inside.live in
-    let own = c.of_worker-own.result in
-    let before = c.self.inside.came_under.entries in
-    let free = c.self.inside.free.tables in
-    let more = c.free_tables_of.new.free.tables in
-    let moment = c.self.inside.moment in
-    let given = c.self.inside.given in
-    let is = c.of_worker-own.ensures in
-    let freed = c.in_ok-free_tables_of.ensures in
-    let kept_ones = without own ls in
-    let t = c.in-Some.table in
-    let came = c.reserve.new.self.entries in
-    let next = c.insert.new.self.entries in
-    let rest = c.first_free.new.free.tables in
-    let l : StoredLease = stored_lease (given + 1, record { id = c.args.id; renewed = moment; tables = c.in_ok-tables-in-Some.tables }) in
-    let same_came : came ≡ before = c.in_ok-reserve-in-Some.ensures.entries in
-    let update : ComesUnder came t (given + 1) next = λ q. c.in-Ok.ensures.updates.0 q in
-    let count : length (map as_lease kept_ones) ≡ c.len_without.result = length-map kept_ones as_lease ∙ sym c.len_without.ensures in
+    let l : StoredLease = stored_lease (c.self.inside.given + 1, record { id = c.args.id; renewed = c.self.inside.moment; tables = c.in_ok-tables-in-Some.tables }) in
+    let others = without c.of_worker-own.result c.self.inside.live in
+    let count : length (map as_lease others) ≡ c.len_without.result = length-map others as_lease ∙ sym c.len_without.ensures in
     let may = c.may_grant.ensures.0 c.if-not-may_grant.false in
-    let holds = own_ended b c.args.id own ls kept_ones before came free more moment given is refl same_came freed.more freed.ok c.self.invariant.0 in
-    let first = subst (λ (came : List (Packed × ℕ)). IsFirstFree b (as_leases kept_ones came 0 0) t) (sym same_came) c.in-Some.ensures.first in
-    let granted = subst (λ (items : List StoredLease). Grants c.args.id t (as_leases kept_ones came moment given) (as_leases items next moment (given + 1))) (sym c.in_ok-replace-in-Some.ensures.ok)
-    (grants b kept_ones came next moment given l t holds.0 refl refl update) in
-    asks_by c.args.self.now b c.args.id ls ls kept_ones before came moment given refl same_came (own_ends c.args.id own ls kept_ones is refl) c.self.view_is (Grant (given + 1) t) _
-    ((subst (λ n. n < 4096) (sym count) may.0, may.1), refl, first, granted)
+    let given = granted c.self.inside.board c.args.id c.of_worker-own.result c.self.inside.live c.self.inside.came_under.entries c.self.inside.free.tables c.free_tables_of.new.free.tables c.self.inside.moment c.self.inside.given
+    c.of_worker-own.ensures c.in_ok-free_tables_of.ensures.more c.in_ok-free_tables_of.ensures.ok c.self.invariant c.reserve.new.self.entries c.insert.new.self.entries l c.in-Some.table c.replace.new.self c.in_ok-reserve-in-Some.ensures.entries refl refl refl
+    (λ q. c.in-Ok.ensures.updates.0 q) c.in_ok-replace-in-Some.ensures.ok c.in-Some.ensures.first in
+    asks_by c.args.self.now c.self.inside.board c.args.id c.self.inside.live c.self.inside.live others c.self.inside.came_under.entries c.reserve.new.self.entries c.self.inside.moment c.self.inside.given
+    refl c.in_ok-reserve-in-Some.ensures.entries (own_ends c.args.id c.of_worker-own.result c.self.inside.live others c.of_worker-own.ensures refl) c.self.view_is (Grant (c.self.inside.given + 1) c.in-Some.table) _
+    ((subst (λ n. n < 4096) (sym count) may.0, may.1), refl, given.0, given.1)
 
 pub returns-in-None-clause-ok : goal.returns-in-None-clause-ok
 returns-in-None-clause-ok c =

@@ -1,9 +1,10 @@
 // How far a board is settled, told on a stream.
 use crate::progress::Progress;
-use crate::share::{WHOLE, open_weight};
+use crate::share::{WHOLE, ahead_weight, open_weight};
 use crate::teller::{Teller, clock_text};
 use crate::telling::Telling;
-use ledger::Board;
+use ledger::{Board, Tally};
+use machine_text::Table;
 use std::alloc::{AllocError as NoMemory, Global};
 use std::io::Write;
 use std::time::Clock;
@@ -67,10 +68,10 @@ impl<'a, C: Clock, E: Write> TimedProgress<'a, C, E> {
         self.teller.end(self.stream);
     }
 
-    fn say(&mut self, board: &Board, milliseconds: u64) -> Result<(), NoMemory> {
-        let tally = board.tally();
+    // What is told where the tables that aren't settled weigh so much together.
+    fn say(&mut self, open_weight: u64, tally: &Tally, milliseconds: u64) -> Result<(), NoMemory> {
         let now = Settled {
-            weight: WHOLE.saturating_sub(open_weight(self.alloc, board)?),
+            weight: WHOLE.saturating_sub(open_weight),
             records: tally.nodes.saturating_sub(tally.open_count),
             milliseconds,
         };
@@ -94,6 +95,22 @@ impl<'a, C: Clock, E: Write> TimedProgress<'a, C, E> {
                 )
             }
         }
+    }
+
+    fn say_board(&mut self, board: &Board, milliseconds: u64) -> Result<(), NoMemory> {
+        let weight = open_weight(self.alloc, board)?;
+        self.say(weight, &board.tally(), milliseconds)
+    }
+
+    fn say_walk(
+        &mut self,
+        root: &Table,
+        ahead: &[Table],
+        tally: &Tally,
+        milliseconds: u64,
+    ) -> Result<(), NoMemory> {
+        let weight = ahead_weight(self.alloc, root, ahead)?;
+        self.say(weight, tally, milliseconds)
     }
 
     // How long the rest takes, if it goes on as since the first time; nothing where that isn't seen yet.
@@ -121,7 +138,14 @@ impl<'a, C: Clock, E: Write> Progress for TimedProgress<'a, C, E> {
     fn tell(&mut self, board: &Board) {
         if let Some(milliseconds) = self.teller.due(self.clock) {
             // What can't be told for want of memory isn't.
-            let _ = self.say(board, milliseconds);
+            let _ = self.say_board(board, milliseconds);
+        }
+    }
+
+    fn tell_walk(&mut self, root: &Table, ahead: &[Table], tally: &Tally) {
+        if let Some(milliseconds) = self.teller.due(self.clock) {
+            // What can't be told for want of memory isn't.
+            let _ = self.say_walk(root, ahead, tally, milliseconds);
         }
     }
 }

@@ -3,8 +3,9 @@ use Rattle.std.proofs.Common.{◌≡◌, ◌≤◌, List, [], ◌∷◌, ◌++�
 use Rattle.std.specs.List.{Contains}
 use Rattle.machine_text.specs.Packed.{Packed}
 use Rattle.ledger.specs.Contents.{Contents, IsBoard, IsOpenOn}
-use Rattle.parts.specs.Whole.{Totals, Collected, IsWhole, AddGives}
-use Rattle.parts.specs.inside.Sums.{AddsTotals, IsOfParts, totals_with}
+use Rattle.totals.specs.Totals.{Totals, totals_with}
+use Rattle.parts.specs.Whole.{Collected, IsWhole, AddGives}
+use Rattle.parts.specs.inside.{AddsTotals, IsOfParts}
 use Rattle.parts.specs.declared.part_fault.PartFault.{PartFault}
 use Rattle.parts.specs.declared.part_fault.PartFault.TheVariants.{NoMemory}
 use Rattle.parts.proofs.Wholes.{whole_more, room_to_count}

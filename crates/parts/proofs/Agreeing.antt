@@ -13,7 +13,7 @@ use Rattle.ledger.proofs.Amounts.{as_many, none_of_kind}
 use Rattle.ledger.proofs.Apart.{held_apart, claim_member, member_claim}
 use Rattle.ledger.proofs.Numbers.{number_of_kind}
 use Rattle.ledger.proofs.WholeTree.{one_list}
-use Rattle.parts.proofs.Parts.{claimed}
+use Rattle.totals.proofs.Behind.{claimed}
 
 abbrev Agree : List Recorded → List Recorded → Type 0
 Agree rs others = (t : Packed) → mark_in rs t ≡ mark_in others t

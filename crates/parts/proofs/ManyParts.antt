@@ -9,7 +9,7 @@ use Rattle.ledger.specs.Held.{IsHeld, IsHoldout}
 use Rattle.ledger.specs.Contents.{Contents}
 use Rattle.ledger.proofs.Apart.{first_or_later, first_member, later_member}
 use Rattle.parts.specs.Parts.{AreParts, joined_with}
-use Rattle.parts.proofs.Parts.{both_held, both_marks, both_open, one_opens}
+use Rattle.totals.proofs.Behind.{both_held, both_marks, both_open, one_opens}
 
 no_part : {p : Contents} → Contains [] p → ⊥
 no_part (k, below, is) = omega arith

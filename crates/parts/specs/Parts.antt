@@ -1,12 +1,11 @@
 -- A tree in parts: records from its root, the trunk, and behind them parts, each from a table that the trunk leaves open.
-use Rattle.std.specs.Prelude.{◌≢◌, ℕ, ◌+◌, ◌-◌, nat_lt, if◌then◌else◌, List, [], ◌∷◌, ◌++◌, Contains, AllPairs, Option, Some, None}
+use Rattle.std.specs.Prelude.{◌≢◌, List, [], ◌∷◌, ◌++◌, Contains, AllPairs}
 use Rattle.machine_text.specs.Packed.{Packed}
 use Rattle.law_tree.specs.Closed.{IsOpen}
 use Rattle.cert.specs.Claim.{Recorded}
 use Rattle.ledger.specs.Records.{mark_in}
 use Rattle.ledger.specs.Held.{IsHeld}
 use Rattle.ledger.specs.Contents.{Contents}
-use Rattle.ledger.specs.declared.tally.Tally.{Tally}
 
 -- a part behind records from a root: its own root is open by them, and its records are held from there
 pub record IsPartOf (root : Packed) (rs : List Recorded) (r : Packed) (ps : List Recorded) : Type 0 where
@@ -22,21 +21,3 @@ pub record AreParts (root : Packed) (rs : List Recorded) (parts : List Contents)
 abbrev pub joined_with : List Recorded → List Contents → List Recorded
 joined_with rs [] = rs
 joined_with rs (p ∷ parts) = joined_with (rs ++ p.records) parts
-
--- the greater of two numbers of which either may be missing
-abbrev pub greater_of : Option ℕ → Option ℕ → Option ℕ
-greater_of None b = b
-greater_of (Some a) None = Some a
-greater_of (Some a) (Some b) = if nat_lt a b then Some b else Some a
-
--- a tally with a part's: the sums, but that the root of the part was counted as open before
-abbrev pub with_part : Tally → Tally → Tally
-with_part a b = record {
-  nodes = a.nodes - 1 + b.nodes;
-  halting = a.halting + b.halting;
-  never = a.never + b.never;
-  holdouts = a.holdouts + b.holdouts;
-  open_count = a.open_count - 1 + b.open_count;
-  best = greater_of a.best b.best;
-  ones = greater_of a.ones b.ones;
-}

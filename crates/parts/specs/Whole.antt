@@ -1,33 +1,11 @@
 -- What a whole holds of a trunk and the parts that were added to it, and of which parts it is the whole.
-use Rattle.std.specs.Prelude.{◌≡◌, ◌≢◌, ◌↔◌, List, [], ◌∷◌, ◌++◌, map, Contains, AllPairs, Result, Ok, Err}
+use Rattle.std.specs.Prelude.{◌≡◌, List, [], ◌∷◌, ◌++◌, map, Contains, Result, Ok, Err}
 use Rattle.machine_text.specs.Packed.{Packed}
-use Rattle.cert.specs.Claim.{Recorded}
-use Rattle.ledger.specs.Held.{IsHoldout}
 use Rattle.ledger.specs.Contents.{Contents, IsBoard, IsOpenOn}
-use Rattle.ledger.specs.Tally.{IsTally, IsChampion, IsOnesChampion}
-use Rattle.ledger.specs.declared.tally.Tally.{Tally}
+use Rattle.totals.specs.Totals.{AreTotals, Totals}
 use Rattle.parts.specs.Parts.{AreParts, joined_with}
 use Rattle.parts.specs.declared.part_fault.PartFault.{PartFault}
 use Rattle.parts.specs.declared.part_fault.PartFault.TheVariants.{NotOpen, AddedBefore, NoMemory}
-
--- what a report tells of a list of records; the tables in any order
-pub record Totals : Type 0 where
-  pub tally : Tally
-  pub champions : List Packed
-  pub ones_champions : List Packed
-  pub holdouts : List Packed
-
--- the tables are exactly those of a kind, each once
-pub record AreExactly (IsOfKind : Packed → Type 0) (tables : List Packed) : Type 0 where
-  pub exact : (t : Packed) → Contains tables t ↔ IsOfKind t
-  pub once : AllPairs (λ a b. a ≢ b) tables
-
--- of records held from a root: how many tables there are of each kind, the champions by steps and by scores, the holdouts
-pub record AreTotals (root : Packed) (rs : List Recorded) (totals : Totals) : Type 0 where
-  pub counted : IsTally root rs totals.tally
-  pub are_champions : AreExactly (IsChampion rs totals.tally.best) totals.champions
-  pub are_ones_champions : AreExactly (IsOnesChampion rs totals.tally.ones) totals.ones_champions
-  pub are_holdouts : AreExactly (IsHoldout rs) totals.holdouts
 
 -- what a whole holds: the trunk, the roots of the parts that were added, in their order, and the totals of all together
 pub record Collected : Type 0 where

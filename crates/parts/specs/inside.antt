@@ -1,2 +1,15 @@
 -- What only the code of this crate needs.
-pub mod Sums
+use Rattle.std.specs.Prelude.{◌≡◌, List}
+use Rattle.ledger.specs.Contents.{Contents}
+use Rattle.totals.specs.Totals.{AreTotals, Totals, totals_with}
+use Rattle.parts.specs.Whole.{Collected, IsWhole}
+
+-- the totals with those of a part
+pub record AddsTotals (part : Contents) (old new : Totals) : Type 0 where
+  pub its : Totals
+  pub are : AreTotals part.root part.records its
+  pub sum : new ≡ totals_with old its
+
+-- it is the whole of some parts
+abbrev pub IsOfParts : Collected → Type 0
+IsOfParts w = (parts : List Contents) × IsWhole w parts

@@ -1,16 +1,15 @@
 // What is kept of a part that is added.
-ghost use Rattle.std.specs.Prelude.{◌≡◌, ◌≤◌, ◌↔◌, ◌∷◌, ◌++◌, [], Contains, IfOk, IfErr, OnOk, OnErr, IsTrue};
+ghost use Rattle.std.specs.Prelude.{◌≡◌, ◌≤◌, ◌↔◌, ◌∷◌, ◌++◌, [], Contains, IfErr, OnOk, OnErr, IsTrue};
 ghost use Rattle.indexmap.specs.IndexSet.{spare};
-ghost use Rattle.parts.specs.Parts.{with_part};
-ghost use Rattle.parts.specs.inside.Sums.{AddsTotals, HasRoomFor, totals_of};
+ghost use Rattle.totals.specs.Totals.{totals_of};
+ghost use Rattle.parts.specs.inside.{AddsTotals};
 
 use crate::part_fault::PartFault;
-use crate::sums::{Sums, with_part};
 use indexmap::IndexSet;
-use kind_evidence::NoMemory;
-use ledger::{Board, Tally};
+use ledger::Board;
 use machine_text::Table;
 use std::alloc::Global;
+use totals::Sums;
 
 // Whether a part with this root was added.
 pub(crate) fn has_root(roots: &IndexSet<Table>, root: &Table) -> bool
@@ -27,8 +26,8 @@ pub(crate) fn add_part(
     sums: &mut Sums,
     part: &Board,
 ) -> Result<(), PartFault>
-    requires nodes { 1 ≤ sums.old.tally.nodes }
-    requires open_count { 1 ≤ sums.old.tally.open_count }
+    requires nodes { 1 ≤ (totals_of sums.old).tally.nodes }
+    requires open_count { 1 ≤ (totals_of sums.old).tally.open_count }
     requires fresh { Contains roots.old.keys part.now.root → ⊥ }
     ensures roots { OnOk result (roots.new.keys ≡ roots.old.keys ++ (part.now.root ∷ [])) }
     ensures totals { OnOk result (AddsTotals part.now (totals_of sums.old) (totals_of sums.new)) }
@@ -37,29 +36,11 @@ pub(crate) fn add_part(
     ensures fault { IfErr result (λ fault. fault ≡ PartFault.NoMemory) }
 {
     let more = Sums::of(alloc, part)?;
-    let tally = make_ready(roots, sums, &more)?;
-    // From here on nothing is refused: there is room for the root and the tables.
-    put_root(roots, part.root());
-    sums.take(more, tally);
-    Ok(())
-}
-
-// Makes room for the root and the tables of a part. The tally with the part's.
-fn make_ready(roots: &mut IndexSet<Table>, sums: &mut Sums, more: &Sums) -> Result<Tally, NoMemory>
-    requires nodes { 1 ≤ sums.old.tally.nodes }
-    requires open_count { 1 ≤ sums.old.tally.open_count }
-    ensures same_roots { roots.new.keys ≡ roots.old.keys }
-    ensures same_totals { totals_of sums.new ≡ totals_of sums.old }
-    ensures tally { IfOk result (λ tally. tally ≡ with_part sums.new.tally more.now.tally) }
-    ensures root_room { OnOk result (1 ≤ spare roots.new) }
-    ensures room { OnOk result (HasRoomFor sums.new more.now) }
-{
-    let Some(tally) = with_part(&sums.tally, &more.tally) else {
-        return Err(NoMemory);
-    };
     roots.reserve(1)?;
-    sums.reserve(more)?;
-    Ok(tally)
+    sums.add(more)?;
+    // From here on nothing is refused: there is room for the root.
+    put_root(roots, part.root());
+    Ok(())
 }
 
 // Adds a root that isn't there, and for which there is room.

@@ -10,7 +10,8 @@ ghost use Rattle.ledger.specs.Contents.{Contents};
 ghost use Rattle.ledger.specs.Tally.{AreAll, IsChampion, IsOnesChampion, IsStatus, IsTally};
 ghost use Rattle.ledger.specs.declared.status.Status.{Status as HowItStands};
 ghost use Rattle.ledger.specs.declared.tally.Tally.{Tally as Counted};
-ghost use Rattle.parts.specs.Parts.{AreParts, IsPartOf, joined_with, with_part};
+ghost use Rattle.totals.specs.Totals.{with_part};
+ghost use Rattle.parts.specs.Parts.{AreParts, IsPartOf, joined_with};
 
 /// A trunk's records and a part's behind them are held from the trunk's root. Open by both are the tables that are open by
 /// the trunk, but for the part's root, and those that are open by the part; recorded is what either records, and no table

@@ -7,12 +7,8 @@
 #![tactic(auto)]
 
 mod adding;
-mod champions;
 mod laws;
 mod part_fault;
-mod standing;
-mod sums;
-mod tables;
 mod whole;
 
 pub use laws::{boards_that_agree_tell_the_same, many_parts_are_held, parts_are_held};

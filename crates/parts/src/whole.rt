@@ -15,17 +15,13 @@ ghost use Rattle.parts.specs.Whole.{AddGives, IsWhole};
 
 use crate::adding::{add_part, has_root};
 use crate::part_fault::PartFault;
-use crate::standing::status_by;
-use crate::sums::Sums;
-use crate::tables::sorted;
-use cert::standing_claims_are_true;
 use indexmap::IndexSet;
 use kind_evidence::NoMemory;
-use law_tree::{best_of_closed, child_is_table, closed_tree, rado_of_complete};
 use ledger::{Board, Champions, Holdouts, Status, Tally};
 use machine_text::Table;
 use std::alloc::Global;
 use std::marker::Model;
+use totals::Sums;
 
 /// A tree whose records are held in parts: the board of its trunk, and what a report tells of the trunk and of the parts
 /// that were added to it, all together. The board of a part isn't kept once it is added.
@@ -39,8 +35,9 @@ pub struct Whole {
 }
 
 impl Model for Whole {
+    ghost use Rattle.totals.specs.Totals.{totals_of};
     ghost use Rattle.parts.specs.Whole.{Collected};
-    ghost use Rattle.parts.specs.inside.Sums.{IsOfParts, totals_of};
+    ghost use Rattle.parts.specs.inside.{IsOfParts};
 
     ghost Value = { Collected };
 
@@ -117,14 +114,9 @@ impl Whole {
         ensures sigma { (n s : ℕ) (best : Option ℕ) → 1 ≤ n → n ≤ state_limit → self.now.trunk.root ≡ empty_table n
             → result ≡ Status.Complete best (Some s) → IsSigma n s }
     {
-        child_is_table();
-        standing_claims_are_true();
-        closed_tree();
-        best_of_closed();
-        rado_of_complete();
         // The proof needs the invariant of the whole.
         let _ = &self.roots;
-        status_by(&self.sums.tally)
+        self.sums.status()
     }
 
     /// How many tables there are of each kind, as one board's tally would tell that holds all.
@@ -132,7 +124,7 @@ impl Whole {
         ensures { (parts : List Contents) → IsWhole self.now parts →
             IsTally self.now.trunk.root (joined_with self.now.trunk.records parts) result }
     {
-        self.sums.tally
+        self.sums.tally()
     }
 
     /// The champions by steps, those by scores and the holdouts of all together, each in the order of their texts, as one
@@ -148,9 +140,7 @@ impl Whole {
         ensures holdouts { IfOk result (λ found. (parts : List Contents) → IsWhole self.now parts →
             AreAll (IsHoldout (joined_with self.now.trunk.records parts)) (into_iter_items found.2)) }
     {
-        let champions = sorted(self.alloc, &self.sums.champions)?;
-        let ones_champions = sorted(self.alloc, &self.sums.ones_champions)?;
-        let holdouts = sorted(self.alloc, &self.sums.holdouts)?;
-        Ok((champions, ones_champions, holdouts))
+        let found = self.sums.champions_and_holdouts(self.alloc)?;
+        Ok(found)
     }
 }

@@ -1,8 +1,9 @@
 // How far some work is.
-use crate::share::{WHOLE, open_weight};
+use crate::share::{WHOLE, ahead_weight, open_weight};
 use crate::teller::{Teller, clock_text};
 use crate::telling::Telling;
-use ledger::Board;
+use ledger::{Board, Tally};
+use machine_text::Table;
 use std::alloc::{AllocError as NoMemory, Global};
 use std::io::Write;
 use std::time::Clock;
@@ -10,7 +11,7 @@ use std::time::Clock;
 /// Work of which it is told how far it is.
 #[derive(Clone, Copy, Debug)]
 pub enum Work {
-    /// A tree is settled: how much of it is by Knuth's estimate, how long the rest takes if it goes on so, and how many tables
+    /// A tree is settled or walked: how much of it is by Knuth's estimate, how long the rest takes if it goes on so, and how many tables
     /// are recorded, open and holdouts. Where workers connect, it is told how many there are, and how many records come in a
     /// second, in place of the holdouts.
     Tree,
@@ -90,15 +91,33 @@ impl Meter {
         }
     }
 
+    // A walk of a root's tree is so far, which is told where it is time for that.
+    pub fn see_walk<C: Clock, E: Write>(
+        &mut self,
+        (root, ahead): (&Table, &[Table]),
+        tally: &Tally,
+        clock: &C,
+        stream: &mut E,
+    ) {
+        if let Some(milliseconds) = self.teller.due(clock)
+            && let Ok(weight) = ahead_weight(self.alloc, root, ahead)
+        {
+            // What can't be told for want of memory isn't.
+            let _ = self.say_tree(weight, tally, milliseconds, stream);
+        }
+    }
+
     // Ends what was told, so that what comes next has a line of its own.
     pub fn end<E: Write>(&mut self, stream: &mut E) {
         self.teller.end(stream);
     }
 
     fn see_tree<C: Clock, E: Write>(&mut self, board: &Board, clock: &C, stream: &mut E) {
-        if let Some(milliseconds) = self.teller.due(clock) {
+        if let Some(milliseconds) = self.teller.due(clock)
+            && let Ok(weight) = open_weight(self.alloc, board)
+        {
             // What can't be told for want of memory isn't.
-            let _ = self.say_tree(board, milliseconds, stream);
+            let _ = self.say_tree(weight, &board.tally(), milliseconds, stream);
         }
     }
 
@@ -122,15 +141,16 @@ impl Meter {
         self.teller.say(stream, milliseconds, &told)
     }
 
+    // What is told of a tree whose open tables weigh so much together.
     fn say_tree<E: Write>(
         &mut self,
-        board: &Board,
+        open_weight: u64,
+        tally: &Tally,
         milliseconds: u64,
         stream: &mut E,
     ) -> Result<(), NoMemory> {
-        let tally = board.tally();
         let now = Settled {
-            weight: WHOLE.saturating_sub(open_weight(self.alloc, board)?),
+            weight: WHOLE.saturating_sub(open_weight),
             records: tally.nodes.saturating_sub(tally.open_count),
             milliseconds,
         };

@@ -41,6 +41,16 @@ pub(crate) fn open_weight(alloc: Global, board: &Board) -> Result<u64, NoMemory>
     Ok(weight.min(WHOLE))
 }
 
+/// What tables of the tree of a root weigh together.
+pub(crate) fn ahead_weight(alloc: Global, root: &Table, ahead: &[Table]) -> Result<u64, NoMemory> {
+    let mut runner = Runner::new(alloc, *root)?;
+    let mut weight: u64 = 0;
+    for t in ahead {
+        weight = weight.saturating_add(weight_of(&mut runner, root, t)?);
+    }
+    Ok(weight.min(WHOLE))
+}
+
 // How many open tables of a board there are, by how many entries they miss.
 fn open_counts(board: &Board) -> [u64; MISSING_COUNTS] {
     let mut counts = [0; MISSING_COUNTS];

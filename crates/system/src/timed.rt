@@ -6,7 +6,7 @@ use crate::telling::Telling;
 use cert::{Decided, Decider, OwnedRecord};
 use files::Progress;
 use kind_evidence::NoMemory;
-use ledger::Board;
+use ledger::{Board, Tally};
 use machine_text::Table;
 use std::alloc::Global;
 use std::io::Write;
@@ -50,6 +50,11 @@ impl<'a, C: Clock, E: Write> TimedProgress<'a, C, E> {
 impl<'a, C: Clock, E: Write> Progress for TimedProgress<'a, C, E> {
     fn tell(&mut self, board: &Board) {
         self.meter.see(board, self.clock, self.stream);
+    }
+
+    fn tell_walk(&mut self, root: &Table, ahead: &[Table], tally: &Tally) {
+        self.meter
+            .see_walk((root, ahead), tally, self.clock, self.stream);
     }
 
     fn count_workers(&mut self, workers: usize) {

@@ -1,5 +1,5 @@
-use Rattle.parts.proofs.Parts.{both_held, both_open, one_opens, both_marks, one_marks, closed_within}
-use Rattle.parts.proofs.PartSums.{both_tally}
+use Rattle.totals.proofs.Behind.{both_held, both_open, one_opens, both_marks, one_marks, closed_within}
+use Rattle.totals.proofs.BothSums.{both_tally}
 use Rattle.parts.proofs.laws.parts_are_held.Goals as goal
 
 pub returns-clause-held : goal.returns-clause-held

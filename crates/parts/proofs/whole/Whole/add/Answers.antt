@@ -2,7 +2,7 @@ use Rattle.std.proofs.Common.{sym, subst, Contains, rules}
 use Rattle.machine_text.specs.Packed.{Packed}
 use Rattle.ledger.specs.Contents.{IsOpenOn}
 use Rattle.parts.specs.Whole.{AddGives, Collected}
-use Rattle.parts.specs.inside.Sums.{totals_of}
+use Rattle.totals.specs.Totals.{totals_of}
 use Rattle.parts.proofs.Added.{part_added, room_for, still_whole, with_roots}
 use Rattle.parts.proofs.whole.Whole.add.Goals as goal
 

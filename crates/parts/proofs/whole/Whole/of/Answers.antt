@@ -1,7 +1,7 @@
 use Rattle.std.proofs.Common.{[], sym, subst, List}
 use Rattle.machine_text.specs.Packed.{Packed}
 use Rattle.parts.specs.Whole.{IsWhole}
-use Rattle.parts.specs.inside.Sums.{totals_of}
+use Rattle.totals.specs.Totals.{totals_of}
 use Rattle.parts.proofs.Wholes.{trunk_alone}
 use Rattle.parts.proofs.whole.Whole.of.Goals as goal
 

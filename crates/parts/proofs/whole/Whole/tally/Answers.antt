@@ -1,10 +1,10 @@
-use Rattle.std.proofs.Common.{subst, List}
-use Rattle.ledger.specs.Contents.{Contents}
+use Rattle.std.proofs.Common.{◌∙◌, sym, ap, subst}
 use Rattle.ledger.specs.Tally.{IsTally}
 use Rattle.parts.specs.Parts.{joined_with}
-use Rattle.parts.specs.Whole.{Collected, IsWhole}
+use Rattle.parts.specs.Whole.{Collected}
 use Rattle.parts.proofs.whole.Whole.tally.Goals as goal
 
 pub returns : goal.returns
-returns c = subst (λ (w : Collected). (parts : List Contents) → IsWhole w parts → IsTally w.trunk.root (joined_with w.trunk.records parts) c.self.inside.sums.tally) c.self.view_is
-    (λ parts whole. whole.totals_are.counted)
+returns c = λ parts whole.
+    let w = c.args.self.now in
+    subst (IsTally w.trunk.root (joined_with w.trunk.records parts)) (sym (c.tally.ensures ∙ ap (λ (v : Collected). v.totals.tally) c.self.view_is)) whole.totals_are.counted

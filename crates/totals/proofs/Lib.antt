@@ -1,0 +1,9 @@
+pub mod Exactly
+pub mod Behind
+pub mod BothSums
+pub mod Told
+pub mod Stands
+pub mod Fitting
+pub mod One
+pub mod Steps
+pub mod Walks

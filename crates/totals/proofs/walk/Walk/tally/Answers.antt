@@ -1,0 +1,8 @@
+use Rattle.std.proofs.Common.{◌∙◌, sym, ap, subst}
+use Rattle.ledger.specs.Tally.{IsTally}
+use Rattle.totals.specs.Walk.{Walked}
+use Rattle.totals.proofs.walk.Walk.tally.Goals as goal
+
+pub returns : goal.returns
+returns c = λ rs walked.
+    subst (IsTally c.args.self.now.root rs) (sym (c.tally.ensures ∙ ap (λ (w : Walked). w.totals.tally) c.self.view_is)) walked.totals_are.counted

@@ -77,47 +77,62 @@ abbrev pub meaning_read : Result Recorded RecordFault → Option (List ℕ)
 meaning_read (Ok r) = None
 meaning_read (Err f) = Some (record_fault_text f)
 
--- of `bb check`, by the number of the line, its text, what was read of it and what was found
-abbrev pub check_object : ℕ → BoundedLine → Result Recorded RecordFault → LineFinding → Data
-check_object number line read f =
+-- of `bb check`, by the number of the line, what was found, and the values of the other members
+abbrev pub check_object_of : ℕ → LineFinding → Data → Data → Data → Data → Data
+check_object_of number f kind meaning table text =
     object (
     member (codes "code") (number_value (code_found f)) (
-    member (codes "kind") (words_value (kind_read read)) (
+    member (codes "kind") kind (
     member (codes "line") (count_value number) (
-    member (codes "meaning") (words_value (meaning_found f)) (
+    member (codes "meaning") meaning (
     member (codes "ones") (number_value (ones_found f)) (
     member (codes "steps") (number_value (steps_found f)) (
-    member (codes "table") (words_value (read_table_text read)) (
-    member (codes "text") (words_value line) (
+    member (codes "table") table (
+    member (codes "text") text (
     member (codes "verdict") (string (verdict_found f)) no_members)))))))))
 
--- of `bb explain`: and the words for what has been shown
-abbrev pub explain_object : ℕ → BoundedLine → Result Recorded RecordFault → LineFinding → Option (List ℕ) → Data
-explain_object number line read f words =
+abbrev pub check_object : ℕ → BoundedLine → Result Recorded RecordFault → LineFinding → Data
+check_object number line read f =
+    check_object_of number f (words_value (kind_read read)) (words_value (meaning_found f))
+    (words_value (read_table_text read)) (words_value line)
+
+-- of `bb explain`: the same, and the words for what has been shown
+abbrev pub explain_object_of : ℕ → LineFinding → Data → Data → Data → Data → Data → Data
+explain_object_of number f kind meaning table text words =
     object (
     member (codes "code") (number_value (code_found f)) (
-    member (codes "kind") (words_value (kind_read read)) (
+    member (codes "kind") kind (
     member (codes "line") (count_value number) (
-    member (codes "meaning") (words_value (meaning_found f)) (
+    member (codes "meaning") meaning (
     member (codes "ones") (number_value (ones_found f)) (
     member (codes "steps") (number_value (steps_found f)) (
-    member (codes "table") (words_value (read_table_text read)) (
-    member (codes "text") (words_value line) (
+    member (codes "table") table (
+    member (codes "text") text (
     member (codes "verdict") (string (verdict_found f)) (
-    member (codes "words") (words_value words) no_members))))))))))
+    member (codes "words") words no_members))))))))))
 
--- of `bb decide`: by the number of the line, its text, and the record of its table or the fault of its text
-abbrev pub decide_object : ℕ → BoundedLine → Result Recorded RecordFault → Data
-decide_object number line decided =
+abbrev pub explain_object : ℕ → BoundedLine → Result Recorded RecordFault → LineFinding → Option (List ℕ) → Data
+explain_object number line read f words =
+    explain_object_of number f (words_value (kind_read read)) (words_value (meaning_found f))
+    (words_value (read_table_text read)) (words_value line) (words_value words)
+
+-- of `bb decide`: by the number of the line, and the record of its table, or the fault of its text
+abbrev pub decide_object_of : ℕ → Result Recorded RecordFault → Data → Data → Data → Data → Data → Data
+decide_object_of number decided kind meaning text_read table text =
     object (
     member (codes "code") (number_value (code_read decided)) (
-    member (codes "kind") (words_value (kind_read decided)) (
+    member (codes "kind") kind (
     member (codes "line") (count_value number) (
-    member (codes "meaning") (words_value (meaning_read decided)) (
-    member (codes "record") (words_value (record_read decided)) (
-    member (codes "table") (words_value (read_table_text decided)) (
-    member (codes "text") (words_value line) (
+    member (codes "meaning") meaning (
+    member (codes "record") text_read (
+    member (codes "table") table (
+    member (codes "text") text (
     member (codes "verdict") (string (verdict_read decided)) no_members))))))))
+
+abbrev pub decide_object : ℕ → BoundedLine → Result Recorded RecordFault → Data
+decide_object number line decided =
+    decide_object_of number decided (words_value (kind_read decided)) (words_value (meaning_read decided))
+    (words_value (record_read decided)) (words_value (read_table_text decided)) (words_value line)
 
 -- the text of an object, in ASCII
 abbrev pub object_text : Data → List ℕ

@@ -7,7 +7,7 @@ ghost use Rattle.cert.specs.Kinds.{read_as};
 ghost use Rattle.cmd_lines.specs.Taken.{lent};
 ghost use Rattle.cmd_json.specs.Ascii.{text_value, words_value};
 ghost use Rattle.cmd_json.specs.Found.{found};
-ghost use Rattle.cmd_json.specs.Objects.{check_object, code_found, code_read, decide_object, ending_name, explain_object, kind_read, meaning_found, meaning_read, number_value, object_text, ones_found, record_read, steps_found, ending_steps, read_table_text, verdict_found, verdict_read};
+ghost use Rattle.cmd_json.specs.Objects.{check_object, check_object_of, code_found, code_read, decide_object, decide_object_of, ending_name, explain_object, explain_object_of, kind_read, meaning_found, meaning_read, number_value, object_text, ones_found, record_read, steps_found, ending_steps, read_table_text, verdict_found, verdict_read};
 
 use crate::ascii::{append_ascii, text_value};
 use crate::finding::{Finding, fault_words};
@@ -20,39 +20,6 @@ use std::alloc::Global;
 /// What is read of a line, or made for it.
 pub(crate) type Read<'a> = Result<Record<'a>, RecordFault>;
 
-// What each answer says of its line: the letter of its kind, what a refusal means, its table and its own text; null where
-// there is none. An object takes them out of their places, so that where memory is refused it alone is let go.
-#[derive(Drop)]
-struct Said {
-    kind: Value,
-    meaning: Value,
-    table: Value,
-    text: Value,
-}
-
-// What is said of a line, by what was read of it and what a refusal means.
-fn said_of(
-    alloc: Global,
-    line: Option<&[u8]>,
-    read: &Read<'_>,
-    meaning: Value,
-) -> Result<Said, NoMemory>
-    ensures kind { IfOk result (λ said. view said.kind ≡ words_value (kind_read (read_as read.now))) }
-    ensures means { IfOk result (λ said. view said.meaning ≡ view meaning) }
-    ensures table { IfOk result (λ said. view said.table ≡ words_value (read_table_text (read_as read.now))) }
-    ensures text { IfOk result (λ said. view said.text ≡ words_value (lent line.entry)) }
-{
-    let kind = kind_value(alloc, read)?;
-    let table = table_value(alloc, read)?;
-    let text = line_value(alloc, line)?;
-    Ok(Said {
-        kind,
-        meaning,
-        table,
-        text,
-    })
-}
-
 /// The object of `bb check`.
 pub(crate) fn check_value(
     alloc: Global,
@@ -64,21 +31,48 @@ pub(crate) fn check_value(
     ensures { IfOk result (λ object. view object
         ≡ check_object number (lent line.entry) (read_as read.now) (found finding.now)) }
 {
-    let meaning = meaning_value(alloc, finding)?;
-    let mut said = said_of(alloc, line, read, meaning)?;
+    let mut kind = kind_value(alloc, read)?;
+    let mut meaning = meaning_value(alloc, finding)?;
+    let mut table = table_value(alloc, read)?;
+    let mut text = line_value(alloc, line)?;
+    check_object_of(
+        alloc,
+        number,
+        finding,
+        &mut kind,
+        &mut meaning,
+        &mut table,
+        &mut text,
+    )
+}
+
+// Makes an object of values that are taken out of their places, so that where memory is refused the object alone is let
+// go, and not what isn't in it yet. So do the next two.
+fn check_object_of(
+    alloc: Global,
+    number: u64,
+    finding: &Finding,
+    kind: &mut Value,
+    meaning: &mut Value,
+    table: &mut Value,
+    text: &mut Value,
+) -> Result<Value, NoMemory>
+    ensures { IfOk result (λ object. view object ≡ check_object_of number (found finding.now) (view kind.old)
+        (view meaning.old) (view table.old) (view text.old)) }
+{
     let code = code_found(finding);
     let ones = ones_found(finding);
     let steps = steps_found(finding);
     let verdict = verdict_found(finding);
     json!(in alloc; {
         "code": number_value(code),
-        "kind": said.kind.take(),
+        "kind": kind.take(),
         "line": number,
-        "meaning": said.meaning.take(),
+        "meaning": meaning.take(),
         "ones": number_value(ones),
         "steps": number_value(steps),
-        "table": said.table.take(),
-        "text": said.text.take(),
+        "table": table.take(),
+        "text": text.take(),
         "verdict": verdict
     })
 }
@@ -96,22 +90,49 @@ pub(crate) fn explain_value(
         ≡ explain_object number (lent line.entry) (read_as read.now) (found finding.now)
         (option_map (λ words. words.items) words.now)) }
 {
-    let meaning = meaning_value(alloc, finding)?;
-    let mut said = said_of(alloc, line, read, meaning)?;
+    let mut kind = kind_value(alloc, read)?;
+    let mut meaning = meaning_value(alloc, finding)?;
+    let mut table = table_value(alloc, read)?;
+    let mut text = line_value(alloc, line)?;
     let mut words = told_value(alloc, words)?;
+    explain_object_of(
+        alloc,
+        number,
+        finding,
+        &mut kind,
+        &mut meaning,
+        &mut table,
+        &mut text,
+        &mut words,
+    )
+}
+
+fn explain_object_of(
+    alloc: Global,
+    number: u64,
+    finding: &Finding,
+    kind: &mut Value,
+    meaning: &mut Value,
+    table: &mut Value,
+    text: &mut Value,
+    words: &mut Value,
+) -> Result<Value, NoMemory>
+    ensures { IfOk result (λ object. view object ≡ explain_object_of number (found finding.now) (view kind.old)
+        (view meaning.old) (view table.old) (view text.old) (view words.old)) }
+{
     let code = code_found(finding);
     let ones = ones_found(finding);
     let steps = steps_found(finding);
     let verdict = verdict_found(finding);
     json!(in alloc; {
         "code": number_value(code),
-        "kind": said.kind.take(),
+        "kind": kind.take(),
         "line": number,
-        "meaning": said.meaning.take(),
+        "meaning": meaning.take(),
         "ones": number_value(ones),
         "steps": number_value(steps),
-        "table": said.table.take(),
-        "text": said.text.take(),
+        "table": table.take(),
+        "text": text.take(),
         "verdict": verdict,
         "words": words.take()
     })
@@ -126,19 +147,46 @@ pub(crate) fn decide_value(
 ) -> Result<Value, NoMemory>
     ensures { IfOk result (λ object. view object ≡ decide_object number (lent line.entry) (read_as decided.now)) }
 {
-    let meaning = meaning_read(alloc, decided)?;
-    let mut said = said_of(alloc, line, decided, meaning)?;
+    let mut kind = kind_value(alloc, decided)?;
+    let mut meaning = meaning_read(alloc, decided)?;
     let mut record = record_value(alloc, decided)?;
+    let mut table = table_value(alloc, decided)?;
+    let mut text = line_value(alloc, line)?;
+    decide_object_of(
+        alloc,
+        number,
+        decided,
+        &mut kind,
+        &mut meaning,
+        &mut record,
+        &mut table,
+        &mut text,
+    )
+}
+
+fn decide_object_of(
+    alloc: Global,
+    number: u64,
+    decided: &Read<'_>,
+    kind: &mut Value,
+    meaning: &mut Value,
+    record: &mut Value,
+    table: &mut Value,
+    text: &mut Value,
+) -> Result<Value, NoMemory>
+    ensures { IfOk result (λ object. view object ≡ decide_object_of number (read_as decided.now) (view kind.old)
+        (view meaning.old) (view record.old) (view table.old) (view text.old)) }
+{
     let code = code_read(decided);
     let verdict = verdict_read(decided);
     json!(in alloc; {
         "code": number_value(code),
-        "kind": said.kind.take(),
+        "kind": kind.take(),
         "line": number,
-        "meaning": said.meaning.take(),
+        "meaning": meaning.take(),
         "record": record.take(),
-        "table": said.table.take(),
-        "text": said.text.take(),
+        "table": table.take(),
+        "text": text.take(),
         "verdict": verdict
     })
 }

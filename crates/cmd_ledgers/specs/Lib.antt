@@ -3,6 +3,7 @@ pub mod Report
 pub mod Told
 pub mod TreeReport
 pub mod LedgerReport
+pub mod Settled
 pub mod Merge
 pub mod Carry
 pub mod Passing

@@ -1,8 +1,8 @@
 //! The commands of `bb` that read ledgers, over readers, writers and files: `report`, `retry`, `merge`, `carry` and `mend`.
 //!
 //! `specs/Report` is the report of a board, `specs/Told` what it tells before it is printed, `specs/TreeReport` that of a
-//! complete one, `specs/LedgerReport` what is printed for a ledger's text, `specs/Reading` how that is read,
-//! `specs/Reporting` what `report` comes to, `specs/GoingOn` a ledger that is gone on with where it stands,
+//! complete one, `specs/Settled` what is printed of the board to which a tree is settled, `specs/LedgerReport` what is printed
+//! for a ledger's text, `specs/Reading` how that is read, `specs/Reporting` what `report` comes to, `specs/GoingOn` a ledger that is gone on with where it stands,
 //! `specs/Retry` what becomes of holdouts that are tried again, `specs/RetryAt` what `retry` comes to, `specs/Merge` two
 //! ledgers that are merged, `specs/Carry` one that is written as version 2, `specs/AtPath` what the last two come to where
 //! files stand. `specs/Mend` says what is kept of the lines of a damaged ledger, and what comes to stand in the one that is

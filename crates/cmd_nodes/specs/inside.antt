@@ -14,7 +14,8 @@ use Rattle.lease_core.specs.Starts.{InStep}
 use Rattle.files.specs.declared.opened.Opened.{Opened}
 use Rattle.cmd_ledgers.specs.LedgerReport.{outcome_by}
 use Rattle.cmd_options.specs.declared.outcome.Outcome.{Outcome}
-use Rattle.cmd_nodes.specs.Settled.{FormText, IsOfLedger}
+use Rattle.cmd_ledgers.specs.Settled.{FormText}
+use Rattle.cmd_nodes.specs.Settled.{IsOfLedger}
 
 -- a node gave these answers in turn, and became so
 abbrev pub BecomesBy : {N : Type 0} → Answering N → N → List Reply → N → Type 0

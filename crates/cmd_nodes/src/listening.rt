@@ -2,7 +2,8 @@
 ghost use Rattle.std.specs.Prelude.{◌≤◌, OnOk};
 ghost use Rattle.machine_text.specs.Limits.{state_limit};
 ghost use Rattle.machine_text.specs.Packed.{empty_table};
-ghost use Rattle.cmd_nodes.specs.Settled.{KeepsLedger, SettlesTree};
+ghost use Rattle.cmd_ledgers.specs.Settled.{SettlesTree};
+ghost use Rattle.cmd_nodes.specs.Settled.{KeepsLedger};
 ghost use Rattle.cmd_nodes.specs.inside.{Becomes, IsServed, KeepsStep};
 
 use crate::coord::start_coordinator;

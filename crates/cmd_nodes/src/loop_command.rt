@@ -4,7 +4,8 @@ ghost use Rattle.machine_text.specs.Limits.{state_limit};
 ghost use Rattle.cmd_options.specs.Ends.{EndsTold};
 ghost use Rattle.cmd_options.specs.declared.ended.Ended.{Ended as Ends};
 ghost use Rattle.cmd_options.specs.declared.outcome.Outcome.{Outcome as Outcomes};
-ghost use Rattle.cmd_nodes.specs.Settled.{KeepsLedger, SettlesTree, TellsTree};
+ghost use Rattle.cmd_ledgers.specs.Settled.{SettlesTree, TellsTree};
+ghost use Rattle.cmd_nodes.specs.Settled.{KeepsLedger};
 
 use crate::couriers::OverSockets;
 use crate::run_command::{Run, settle};
@@ -18,7 +19,7 @@ use wire::{LedgerOut, Node};
 
 /// Does what `cmd_run` does, but that the frames of each worker go over a connection of its own, and that none is lost.
 /// A socket that fails ends it as a stream does.
-#[tactic(auto, using(crate::proofs::Settling::tells))]
+#[tactic(auto, using(cmd_ledgers::proofs::Settling::tells))]
 pub fn cmd_loop<
     P: ReportForm,
     F: Read + Drop,

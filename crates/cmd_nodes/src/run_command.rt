@@ -4,7 +4,8 @@ ghost use Rattle.machine_text.specs.Limits.{state_limit};
 ghost use Rattle.cmd_options.specs.Ends.{EndsTold};
 ghost use Rattle.cmd_options.specs.declared.ended.Ended.{Ended as Ends};
 ghost use Rattle.cmd_options.specs.declared.outcome.Outcome.{Outcome as Outcomes};
-ghost use Rattle.cmd_nodes.specs.Settled.{KeepsLedger, SettlesTree, TellsTree};
+ghost use Rattle.cmd_ledgers.specs.Settled.{SettlesTree, TellsTree};
+ghost use Rattle.cmd_nodes.specs.Settled.{KeepsLedger};
 ghost use Rattle.cmd_nodes.specs.inside.{IsServed};
 
 use crate::coord::start_coordinator;
@@ -34,7 +35,7 @@ pub struct Run<'a, P, N> {
 /// Settles the tree of the empty table by a coordinator and workers, and prints the report in a form. The
 /// coordinator's board begins with what `held` reads, and its records go to `ledger`. Accepted where the board is
 /// complete at the end. How far it is goes to `progress`; what ends the command early is said on `faults`.
-#[tactic(auto, using(crate::proofs::Settling::tells))]
+#[tactic(auto, using(cmd_ledgers::proofs::Settling::tells))]
 pub fn cmd_run<
     P: ReportForm,
     F: Read + Drop,

@@ -1,4 +1,5 @@
 pub mod Exactly
+pub mod Ahead
 pub mod Behind
 pub mod BothSums
 pub mod Told

@@ -1,5 +1,5 @@
 // The children of a table that is decided.
-ghost use Rattle.std.specs.Prelude.{◌≡◌, ◌↔◌, ◌+◌, ◌≤◌, ◌++◌, ℕ, List, Contains, AllPairs, IfSome, length, vec_len, vec_capacity};
+ghost use Rattle.std.specs.Prelude.{◌≡◌, ◌↔◌, ◌+◌, ◌<◌, ◌≤◌, ◌++◌, ℕ, List, Contains, AllPairs, IfSome, insert, length, reverse, vec_len, vec_capacity};
 ghost use Rattle.std.specs.Ordering.{nat_cmp};
 ghost use Rattle.std.specs.declared.cmp.Ordering.TheVariants.{Less};
 ghost use Rattle.std.specs.Cmp.Lexicographic.{slice_cmp};
@@ -11,7 +11,6 @@ ghost use Rattle.cert.specs.Certified.{HaltsOnPair};
 ghost use Rattle.totals.specs.inside.Steps.{AreOpenedBy};
 ghost use Rattle.totals.specs.inside.Sums.{most_children};
 
-use crate::champions::put;
 use law_tree::children_listed;
 use machine_text::{Pair, Table};
 use tnf::{Children, children};
@@ -45,15 +44,29 @@ fn children_on(parent: &Table, pair: Pair) -> Children
     children(parent, pair.state, pair.symbol)
 }
 
-// Puts all ahead, for which there is room. How many they are.
+// Puts all ahead, for which there is room, in their order: the first comes next, so it is the last. How many they are.
 fn put_all(ahead: &mut Vec<Table>, found: Children) -> u64
     requires { vec_len ahead.old + length found ≤ vec_capacity ahead.old }
-    ensures items { ahead.new.items ≡ ahead.old.items ++ found }
+    ensures items { ahead.new.items ≡ ahead.old.items ++ reverse found }
     ensures number { result ≡ length found }
 {
     let before = ahead.len();
     for child in found {
-        put(ahead, &child);
+        put_at(ahead, before, &child);
     }
     (ahead.len() - before) as u64
+}
+
+// Puts a table at a place, for which there is room.
+fn put_at(tables: &mut Vec<Table>, place: usize, t: &Table)
+    requires place { place ≤ vec_len tables.old }
+    requires room { vec_len tables.old < vec_capacity tables.old }
+    ensures items { tables.new.items ≡ insert tables.old.items place t.now }
+    ensures len { vec_len tables.new ≡ vec_len tables.old + 1 }
+    ensures capacity { vec_capacity tables.old ≤ vec_capacity tables.new }
+{
+    match tables.insert(place, *t) {
+        Ok(()) => {}
+        Err(_) => unreachable!(),
+    }
 }

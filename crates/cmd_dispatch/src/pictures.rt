@@ -1,15 +1,12 @@
 // `bb draw` and `bb page`.
 use crate::call::Call;
 use crate::ledgers::STANDARD_INPUT;
-use cmd_folder_page::folder_page_at;
 use cmd_options::{Drawing, Ended, Outcome, Paging, VERSION, ended_by};
-use cmd_page::{Heading, LedgerSum, Maker, write_ledger_page};
-use cmd_record_page::record_page_for;
+use cmd_page::{Maker, folder_page_at, record_page_for, write_ledger_page};
 use cmd_show::cmd_draw;
-use files::{Disk, Files, Opened};
+use files::{Disk, Files};
 use std::alloc::Global;
 use std::io::{Read, Write};
-use sums::sum_of;
 
 // `bb draw`.
 pub(crate) fn draw<S: Disk, R: Read, W: Write, E: Write>(
@@ -90,34 +87,13 @@ fn page_of_file<H: Files, W: Write>(
     files: &H,
     answers: &mut W,
 ) -> Result<Outcome, Ended> {
-    let heading = Heading {
-        title,
-        maker,
-        ledgers: ledger_sum(path, files)?,
+    let mut file = match files.open_to_end(path) {
+        Ok(file) => file,
+        Err(fault) => return Err(ended_by(&fault, Ended::File)),
     };
-    let mut file = opened(path, files)?;
-    match write_ledger_page(alloc, &heading, &mut file.reader, file.length, answers) {
+    match write_ledger_page(alloc, title, &maker, &mut file.reader, file.length, answers) {
         Ok((outcome, _)) => Ok(outcome),
         Err(stopped) => Err(stopped.ended(Ended::File)),
-    }
-}
-
-// The sum of a ledger's bytes; not known of what is no plain file, whose bytes come but once.
-fn ledger_sum<H: Files>(path: &str, files: &H) -> Result<LedgerSum, Ended> {
-    let mut file = opened(path, files)?;
-    if file.length == u64::MAX {
-        return Ok(LedgerSum::Unknown);
-    }
-    match sum_of(&mut file.reader, file.length) {
-        Ok(sum) => Ok(LedgerSum::Ledger(sum)),
-        Err(fault) => Err(ended_by(&fault, Ended::File)),
-    }
-}
-
-fn opened<H: Files>(path: &str, files: &H) -> Result<Opened<H::Reader>, Ended> {
-    match files.open_to_end(path) {
-        Ok(file) => Ok(file),
-        Err(fault) => Err(ended_by(&fault, Ended::File)),
     }
 }
 
@@ -133,12 +109,7 @@ fn page_of_stream<S, R: Read, W: Write, E>(
         answers,
         ..
     } = call;
-    let heading = Heading {
-        title,
-        maker,
-        ledgers: LedgerSum::Unknown,
-    };
-    match write_ledger_page(alloc, &heading, input, u64::MAX, answers) {
+    match write_ledger_page(alloc, title, &maker, input, u64::MAX, answers) {
         Ok((outcome, _)) => Ok(outcome),
         Err(stopped) => Err(stopped.ended(Ended::Stream)),
     }

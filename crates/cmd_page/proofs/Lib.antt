@@ -7,3 +7,10 @@ pub mod FigureLaws
 pub mod PageLaws
 pub mod Digits
 pub mod NextStates
+pub mod Last
+pub mod Listing
+pub mod PageTold
+pub mod Pieces
+pub mod Appending
+pub mod RowLaws
+pub mod FeedingBoth

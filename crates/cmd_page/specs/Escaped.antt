@@ -1,8 +1,10 @@
 -- How a text stands in HTML, between tags and within quotes. Bytes are their ASCII codes: 34 `"`, 38 `&`, 39 `'`, 60 `<`,
 -- 62 `>`.
-use Rattle.std.specs.Prelude.{◌≡◌, ◌⊎◌, ℕ, ◌==◌, if◌then◌else◌, List, [], ◌∷◌, ◌++◌, flat_map, codes}
+use Rattle.std.specs.Prelude.{◌≡◌, ◌⊎◌, ℕ, ◌==◌, if◌then◌else◌, List, [], ◌∷◌, flat_map, codes}
+use Rattle.std.specs.List.{concat}
 use Rattle.machine_text.specs.Packed.{Packed}
 use Rattle.machine_text.specs.Text.{text_of}
+use Rattle.cmd_page.specs.declared.markup.TheConstants.{CODE, CODE_END}
 
 -- what stands for a byte
 unfoldable pub entity : ℕ → List ℕ
@@ -23,5 +25,5 @@ abbrev pub EndsText : ℕ → Type 0
 EndsText byte = (byte ≡ 34) ⊎ ((byte ≡ 39) ⊎ ((byte ≡ 60) ⊎ (byte ≡ 62)))
 
 -- a table, whose text needs no escaping
-abbrev pub code_html : Packed → List ℕ
-code_html t = codes "<code>" ++ text_of t ++ codes "</code>"
+unfoldable pub code_html : Packed → List ℕ
+code_html t = concat (CODE.now ∷ text_of t ∷ CODE_END.now ∷ [])

@@ -1,17 +1,20 @@
 -- The pictures of champions: the run from the blank tape to its halting, in a bounded number of rows and columns.
 use Rattle.std.specs.Prelude.{◌≡◌, ℕ, ◌+◌, ◌-◌, ◌/◌, ◌==◌, if◌then◌else◌, min, nat_lt, Bool, true, false, Option, Some, None, List, [], ◌∷◌, ◌++◌, codes}
 use Rattle.machine_text.specs.Packed.{Packed, entry_of}
-use Rattle.machine_text.specs.Text.{text_of}
+use Rattle.std.specs.List.{concat}
 use Rattle.run.specs.Limits.{halt_step_limit}
 use Rattle.cmd_show.specs.declared.times.Times.{Times}
 use Rattle.cmd_show.specs.declared.view.View.{View}
 use Rattle.cmd_show.specs.declared.size.Size.{Size}
 use Rattle.cmd_show.specs.View.{columns_of, share_in}
+use Rattle.cmd_page.specs.Escaped.{code_html}
 use Rattle.cmd_page.specs.Groups.{grouped}
 use Rattle.cmd_show.specs.Rows.{Shown, AreRows}
 use Rattle.cmd_show.specs.Svg.{svg_text}
 use Rattle.cmd_show.specs.Visits.{IsPlaced}
 use Rattle.cmd_page.specs.Transitions.{transitions_html}
+use Rattle.cmd_page.specs.declared.figures.TheConstants.{BREAK, CAPTION, CAPTION_END, CELLS, COLUMNS, COMMA, SAMPLED}
+use Rattle.cmd_page.specs.declared.markup.TheConstants.{FIGURE, FIGURE_END}
 
 -- how many champions have a picture
 abbrev pub picture_limit : ℕ
@@ -41,12 +44,15 @@ abbrev pub columns_view : View → View
 columns_view visited = record visited { share = share_in column_limit visited.width }
 
 -- what is said of how a run is sampled
-abbrev pub every_text : ℕ → List ℕ
+unfoldable pub every_text : ℕ → List ℕ
 every_text n = if n == 1 then codes "each step" else codes "every " ++ grouped n ++ codes " steps"
 
-abbrev pub sampling_html : View → Times → List ℕ
-sampling_html v times = codes "<p class='sampled'>A row " ++ every_text times.every ++ codes ", " ++ grouped v.width
-    ++ codes " cells in " ++ grouped (columns_of v) ++ codes " columns</p>\n"
+unfoldable pub cells_html : View → List ℕ
+cells_html v = concat (COMMA.now ∷ grouped v.width ∷ CELLS.now ∷ grouped (columns_of v) ∷ COLUMNS.now ∷ [])
+
+unfoldable pub sampling_html : View → Times → List ℕ
+sampling_html v times =
+    concat (SAMPLED.now ∷ every_text times.every ∷ cells_html v ∷ [])
 
 -- a picture of a table's run up to its halting, or of so many of its steps: the configurations at these times, in all
 -- cells that it visits, and how they are sampled
@@ -63,14 +69,13 @@ abbrev pub IsPictureIf : Bool → Packed → ℕ → List ℕ → Type 0
 IsPictureIf true t best svg = IsChampionPicture t best svg
 IsPictureIf false t best svg = svg ≡ []
 
-abbrev pub caption_html : Packed → ℕ → List ℕ
-caption_html t best = codes "<figcaption><code>" ++ text_of t ++ codes "</code><br>" ++ grouped best
-    ++ codes " steps</figcaption>\n"
+unfoldable pub caption_html : Packed → ℕ → List ℕ
+caption_html t best = concat (CAPTION.now ∷ code_html t ∷ BREAK.now ∷ grouped best ∷ CAPTION_END.now ∷ [])
 
 -- a table with its picture, its transitions and its number of steps
 unfoldable pub figure_html : Packed → ℕ → List ℕ → List ℕ
 figure_html t best svg =
-    codes "<figure>\n" ++ svg ++ transitions_html t ++ caption_html t best ++ codes "</figure>\n"
+    concat (FIGURE.now ∷ svg ∷ transitions_html t ∷ caption_html t best ∷ FIGURE_END.now ∷ [])
 
 -- a figure for each table, with a picture for as many as may have one
 unfoldable pub AreFiguresOf : ℕ → ℕ → List Packed → List ℕ → Type 0

@@ -5,7 +5,6 @@ pub mod Transitions
 pub mod Figures
 pub mod Style
 pub mod Steps
-pub mod Script
 pub mod KindWords
 pub mod Sentence
 pub mod Row
@@ -13,3 +12,7 @@ pub mod Heading
 pub mod Page
 pub mod Counting
 pub mod inside
+pub mod Sums
+pub mod Folder
+pub mod Section
+pub mod Records

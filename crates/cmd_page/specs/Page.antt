@@ -1,6 +1,6 @@
 -- The text of a page, to the byte. A part in which there would be nothing isn't there.
-use Rattle.std.specs.Prelude.{◌≡◌, ℕ, ◌+◌, ◌-◌, ◌*◌, ◌==◌, if◌then◌else◌, List, [], ◌++◌, Option, Some, None, codes, decimal, flat_map}
-use Rattle.std.specs.List.{range_with_len}
+use Rattle.std.specs.Prelude.{◌≡◌, ℕ, ◌+◌, ◌-◌, ◌*◌, ◌==◌, if◌then◌else◌, List, [], ◌∷◌, ◌++◌, Option, Some, None, codes, decimal, flat_map}
+use Rattle.std.specs.List.{concat, range_with_len}
 use Rattle.std.specs.Vec.Iter.{into_iter_items}
 use Rattle.machine_text.specs.Packed.{Packed}
 use Rattle.machine_text.specs.Text.{text_of}
@@ -17,17 +17,24 @@ use Rattle.cmd_page.specs.Census.{Numbers, entry_count, numbers_of}
 use Rattle.cmd_page.specs.Escaped.{escaped, code_html}
 use Rattle.cmd_page.specs.Figures.{AreFigures}
 use Rattle.cmd_page.specs.Heading.{Headed, origin_html}
-use Rattle.cmd_page.specs.Row.{count_html, most_html}
+use Rattle.cmd_page.specs.Row.{count_html, items_html, most_html}
 use Rattle.cmd_page.specs.Sentence.{sentence_html}
 use Rattle.cmd_page.specs.Steps.{steps_html}
 use Rattle.cmd_page.specs.KindWords.{kind_words}
-use Rattle.cmd_page.specs.Script.{script_text}
-use Rattle.cmd_page.specs.Style.{opening_text, heading_text, parts_text, record_links_text, halting_links_text, holdouts_link_text, status_text}
-use Rattle.cmd_page.specs.Style.{rows_end_text, kinds_text, entries_text, champions_text, ones_champions_text, items_end_text, holdouts_text, ending_text}
+use Rattle.cmd_page.specs.Style.{policy}
+use Rattle.cmd_page.specs.declared.markup.TheConstants.{ROW_END}
+use Rattle.cmd_page.specs.declared.script.TheConstants.{SCRIPT}
+use Rattle.cmd_page.specs.declared.style.TheConstants.{CHAMPIONS, ENDING, ENTRIES, HALTING_LINKS, HEADING, HOLDOUTS, HOLDOUTS_LINK, ITEMS_END}
+use Rattle.cmd_page.specs.declared.style.TheConstants.{KINDS, LOOK, ONES_CHAMPIONS, PAGE_START, PARTS, RECORD_LINKS, ROWS_END, STATUS}
+use Rattle.cmd_page.specs.declared.summary.TheConstants.{ROOT, ROOT_END}
+
+-- the beginning, up to the title
+unfoldable pub start_html : List ℕ
+start_html = concat (PAGE_START.now ∷ policy ∷ LOOK.now ∷ [])
 
 -- the title, in the title bar and as the heading
-abbrev pub opening_html : List ℕ → List ℕ
-opening_html title = opening_text ++ escaped title ++ heading_text ++ escaped title
+unfoldable pub opening_html : List ℕ → List ℕ
+opening_html title = concat (start_html ∷ escaped title ∷ HEADING.now ∷ escaped title ∷ [])
 
 -- what stands where there are some, and where there is a greatest number
 abbrev pub where_some : ℕ → List ℕ → List ℕ
@@ -42,16 +49,12 @@ abbrev pub record_count : Tally → ℕ
 record_count tally = tally.nodes - tally.open_count
 
 -- the links to the parts that are there
-abbrev pub parts_html : Tally → List ℕ
-parts_html tally =
-    parts_text
-    ++ where_some (record_count tally) record_links_text
-    ++ where_found tally.best halting_links_text
-    ++ where_some tally.holdouts holdouts_link_text
-    ++ status_text
+unfoldable pub parts_html : Tally → List ℕ
+parts_html tally = concat (PARTS.now ∷ where_some (record_count tally) RECORD_LINKS.now
+    ∷ where_found tally.best HALTING_LINKS.now ∷ where_some tally.holdouts HOLDOUTS_LINK.now ∷ STATUS.now ∷ [])
 
-abbrev pub root_html : Packed → List ℕ
-root_html root = codes "<p>Root " ++ code_html root ++ codes "</p>\n<table>\n"
+unfoldable pub root_html : Packed → List ℕ
+root_html root = concat (ROOT.now ∷ code_html root ∷ ROOT_END.now ∷ [])
 
 -- how the board stands, in words; where the tree is complete, the sentence that says what it shows stands behind that
 abbrev pub status_html : Status → List ℕ
@@ -61,7 +64,8 @@ status_html (Complete best ones) = codes "<p><strong>Complete.</strong> Each tab
 
 -- what wasn't kept of the ledger
 abbrev pub left_line_html : ℕ → List ℕ
-left_line_html line = codes "<p class='left'>From line " ++ decimal line ++ codes " on, the ledger isn't kept.</p>\n"
+left_line_html line =
+    concat (codes "<p class='left'>From line " ∷ decimal line ∷ codes " on, the ledger isn't kept.</p>\n" ∷ [])
 
 abbrev pub left_html : Left → List ℕ
 left_html Nothing = []
@@ -82,14 +86,14 @@ abbrev pub summary_html : Packed → Status → Tally → Left → List ℕ
 summary_html root status tally left =
     status_html status ++ sentence_html root status ++ left_html left ++ root_html root ++ tally_html tally
 
--- how large a share of all records is
-abbrev pub share_html : ℕ → ℕ → List ℕ
-share_html total n = codes "<meter max='" ++ decimal total ++ codes "' value='" ++ decimal n ++ codes "'></meter>"
+-- how large a share of all records is, in the row of what a kind is
+unfoldable pub share_html : ℕ → ℕ → List ℕ
+share_html total n = concat (codes "<tr><td class='means' colspan='2'><meter max='" ∷ decimal total ∷ codes "' value='"
+    ∷ decimal n ∷ codes "'></meter>" ∷ [])
 
 -- what a kind is, beneath its share
-abbrev pub means_html : ℕ → ℕ → ℕ → List ℕ
-means_html total n letter =
-    codes "<tr><td class='means' colspan='2'>" ++ share_html total n ++ kind_words letter ++ codes "</td></tr>\n"
+unfoldable pub means_html : ℕ → ℕ → ℕ → List ℕ
+means_html total n letter = concat (share_html total n ∷ kind_words letter ∷ ROW_END.now ∷ [])
 
 -- the rows of a kind, by how many there are of its letter, where there are some
 abbrev pub kind_html : ℕ → ℕ → ℕ → List ℕ
@@ -103,25 +107,18 @@ kinds_html total number = flat_map (λ letter. kind_html total (number letter) l
 abbrev pub entries_html : ℕ → (ℕ → ℕ) → List ℕ
 entries_html n number = flat_map (λ k. count_html (decimal k) (number k)) (range_with_len 0 (2 * n + 1))
 
-abbrev pub census_html : ℕ → ℕ → (ℕ → ℕ) → (ℕ → ℕ) → List ℕ
+unfoldable pub census_html : ℕ → ℕ → (ℕ → ℕ) → (ℕ → ℕ) → List ℕ
 census_html n total kinds entries =
-    kinds_text ++ kinds_html total kinds ++ rows_end_text ++ entries_text ++ entries_html n entries ++ rows_end_text
-
--- tables in a list
-abbrev pub item_html : Packed → List ℕ
-item_html t = codes "<li>" ++ code_html t ++ codes "</li>\n"
-
-abbrev pub items_html : List Packed → List ℕ
-items_html tables = flat_map item_html tables
+    concat (KINDS.now ∷ kinds_html total kinds ∷ ENTRIES.now ∷ entries_html n entries ∷ ROWS_END.now ∷ [])
 
 -- the champions by scores
-abbrev pub ones_champions_html : List Packed → List ℕ
-ones_champions_html tables = ones_champions_text ++ items_html tables ++ items_end_text
+unfoldable pub ones_champions_html : List Packed → List ℕ
+ones_champions_html tables = concat (ONES_CHAMPIONS.now ∷ items_html tables ∷ ITEMS_END.now ∷ [])
 
 -- the champions, where there is a greatest number of steps
 abbrev pub champions_html : Option ℕ → List ℕ → List Packed → List ℕ
 champions_html best figures ones_champions =
-    where_found best (champions_text ++ figures ++ ones_champions_html ones_champions)
+    where_found best (CHAMPIONS.now ++ figures ++ ones_champions_html ones_champions)
 
 -- a holdout's text, as a link to what others know of it
 abbrev pub link_html : List ℕ → List ℕ
@@ -139,20 +136,19 @@ holdouts_html tables = flat_map holdout_html tables
 
 -- what stands behind them; nothing but the end of the page where there is none
 abbrev pub ending_html : ℕ → List ℕ
-ending_html n = if n == 0 then ending_text else script_text
+ending_html n = if n == 0 then ENDING.now else SCRIPT.now
 
 -- all before the rows of the holdouts, by numbers of records
 unfoldable pub head_html : Headed → Numbers → Left → Told → List ℕ → List ℕ
-head_html heading numbers left told figures =
-    opening_html heading.title
-    ++ parts_html told.tally
-    ++ summary_html told.root told.status told.tally left
-    ++ origin_html heading ++ rows_end_text
-    ++ where_some (record_count told.tally)
+head_html heading numbers left told figures = concat (opening_html heading.title
+    ∷ parts_html told.tally
+    ∷ summary_html told.root told.status told.tally left
+    ∷ origin_html heading ∷ ROWS_END.now
+    ∷ where_some (record_count told.tally)
     (census_html told.root.states (record_count told.tally) numbers.kinds numbers.entries)
-    ++ steps_html told.tally.best numbers.steps
-    ++ champions_html told.tally.best figures (into_iter_items told.ones_champions)
-    ++ where_some told.tally.holdouts holdouts_text
+    ∷ steps_html told.tally.best numbers.steps
+    ∷ champions_html told.tally.best figures (into_iter_items told.ones_champions)
+    ∷ where_some told.tally.holdouts HOLDOUTS.now ∷ [])
 
 abbrev pub page_html : Headed → Numbers → Left → Told → List ℕ → List ℕ
 page_html heading numbers left told figures =

@@ -5,11 +5,12 @@ ghost use Rattle.cmd_page.specs.Page.{census_html, entries_html, kind_html, kind
 
 use crate::census::Census;
 use crate::kind_words::kind_words;
+use crate::markup::ROW_END;
 use crate::rows::{append_count, append_numbered};
-use crate::style;
+use crate::style::{ENTRIES, KINDS, ROWS_END};
 use cmd_options::{LETTERS, kind_label};
 use kind_evidence::NoMemory;
-use text::append_number;
+use std::io::Write;
 
 // Appends what is counted of the records of a board, of which there are so many and whose tables have so many states,
 // where there are records.
@@ -29,17 +30,17 @@ pub(crate) fn append_census(
     append_counts(states, total, census, out)
 }
 
+#[tactic(auto, unfolding(crate::specs::Page::census_html))]
 fn append_counts(states: u8, total: u64, census: &Census, out: &mut Vec<u8>) -> Result<(), NoMemory>
     requires { states ≤ state_limit }
     ensures { OnOk result (out.new.items ≡ out.old.items
         ++ census_html states total (slice_index census.now.kinds) (slice_index census.now.entries)) }
 {
-    out.extend_from_slice(style::kinds())?;
+    out.extend_from_slice(KINDS)?;
     append_kinds(total, &census.kinds, out)?;
-    out.extend_from_slice(style::rows_end())?;
-    out.extend_from_slice(style::entries())?;
+    out.extend_from_slice(ENTRIES)?;
     append_entries(states, &census.entries, out)?;
-    out.extend_from_slice(style::rows_end())
+    out.extend_from_slice(ROWS_END)
 }
 
 // Appends the rows of each kind.
@@ -64,24 +65,25 @@ fn append_kind(total: u64, n: u64, letter: u8, out: &mut Vec<u8>) -> Result<(), 
 }
 
 // Appends what a kind is, beneath its share.
+#[tactic(auto, unfolding(crate::specs::Page::means_html))]
 fn append_means(total: u64, n: u64, letter: u8, out: &mut Vec<u8>) -> Result<(), NoMemory>
     ensures { OnOk result (out.new.items ≡ out.old.items ++ means_html total n letter) }
 {
-    out.extend_from_slice(b"<tr><td class='means' colspan='2'>")?;
     append_share(total, n, out)?;
     out.extend_from_slice(kind_words(letter))?;
-    out.extend_from_slice(b"</td></tr>\n")
+    out.extend_from_slice(ROW_END)
 }
 
-// Appends how large a share of all records is.
+// Begins the row of what a kind is, with how large a share of all records is.
+#[tactic(auto, unfolding(crate::specs::Page::share_html))]
 fn append_share(total: u64, n: u64, out: &mut Vec<u8>) -> Result<(), NoMemory>
     ensures { OnOk result (out.new.items ≡ out.old.items ++ share_html total n) }
 {
-    out.extend_from_slice(b"<meter max='")?;
-    append_number(total, out)?;
-    out.extend_from_slice(b"' value='")?;
-    append_number(n, out)?;
-    out.extend_from_slice(b"'></meter>")
+    write!(
+        out,
+        "<tr><td class='means' colspan='2'><meter max='{total}' value='{n}'></meter>"
+    )
+    .map_err(|_| NoMemory)
 }
 
 // Appends a row for each number of entries.

@@ -5,7 +5,7 @@ ghost use Rattle.cmd_page.specs.Escaped.{entity, escaped};
 use kind_evidence::NoMemory;
 
 /// Appends a text as it stands in HTML, whatever its bytes.
-pub fn append_escaped(text: &[u8], out: &mut Vec<u8>) -> Result<(), NoMemory>
+pub(crate) fn append_escaped(text: &[u8], out: &mut Vec<u8>) -> Result<(), NoMemory>
     ensures { OnOk result (out.new.items ≡ out.old.items ++ escaped text.now) }
 {
     for byte in text {

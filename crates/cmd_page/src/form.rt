@@ -11,11 +11,11 @@ use std::io::{self, Write};
 
 /// A report as a page, of records that were counted.
 #[derive(Drop)]
-pub struct Page<'a> {
+pub(crate) struct Page<'a> {
     /// What it is of.
-    pub heading: &'a Heading<'a>,
+    pub(crate) heading: &'a Heading<'a>,
     /// How many records there are.
-    pub census: &'a Census,
+    pub(crate) census: &'a Census,
 }
 
 impl ReportForm for Page<'_> {

@@ -1,12 +1,12 @@
 // What a page is of, and what it is made from.
 ghost use Rattle.std.specs.Prelude.{◌≡◌, ◌++◌, OnOk};
-ghost use Rattle.cmd_page.specs.Heading.{ledgers_html, origin_html, program_html, sum_html};
+ghost use Rattle.cmd_page.specs.Heading.{ledgers_html, origin_html, program_html, sum_html, version_html};
 
 use crate::escape::append_escaped;
-use crate::rows::{append_end, append_name};
+use crate::listed::append_hex;
+use crate::markup::{ROW, ROW_END};
 use kind_evidence::NoMemory;
 use std::marker::Model;
-use sums::append_hex;
 
 /// What a page is of, and what it is made from, so that it can be cited.
 #[derive(Drop)]
@@ -44,27 +44,44 @@ pub struct Maker<'a> {
 /// The SHA-256 of what a page is of.
 #[derive(Clone, Copy, Debug)]
 pub enum LedgerSum {
-    /// Not known, as of a stream.
-    Unknown,
+    /// Of no ledger, as on a page of records.
+    NoLedger,
     /// Of the bytes of a ledger.
     Ledger([u8; 32]),
     /// Of the list of a folder's ledgers.
     Folder([u8; 32]),
 }
 
-/// Appends the rows that say what a page is made from.
-pub fn append_origin(heading: &Heading<'_>, out: &mut Vec<u8>) -> Result<(), NoMemory>
+// Before the version of the program.
+const MADE_BY: &[u8] = b"<tr><th scope='row'>Made by</th><td>bb ";
+
+// About the digits of a sum.
+const SUM: &[u8] = b"</th><td><code>";
+
+const SUM_END: &[u8] = b"</code></td></tr>\n";
+
+// Appends the rows that say what a page is made from.
+#[tactic(auto, unfolding(crate::specs::Heading::origin_html))]
+pub(crate) fn append_origin(heading: &Heading<'_>, out: &mut Vec<u8>) -> Result<(), NoMemory>
     ensures { OnOk result (out.new.items ≡ out.old.items ++ origin_html heading.now) }
 {
-    append_name(b"Made by", out)?;
-    out.extend_from_slice(b"bb ")?;
-    append_escaped(heading.maker.version.as_bytes(), out)?;
-    append_end(out)?;
+    append_version(heading.maker.version, out)?;
     append_program(heading.maker.sum, out)?;
     append_ledgers(heading.ledgers, out)
 }
 
+// Appends the row of the program's version.
+#[tactic(auto, unfolding(crate::specs::Heading::version_html))]
+fn append_version(version: &str, out: &mut Vec<u8>) -> Result<(), NoMemory>
+    ensures { OnOk result (out.new.items ≡ out.old.items ++ version_html version.now) }
+{
+    out.extend_from_slice(MADE_BY)?;
+    append_escaped(version.as_bytes(), out)?;
+    out.extend_from_slice(ROW_END)
+}
+
 // Appends the row of the program's sum, where it is known.
+#[tactic(auto, unfolding(crate::specs::Heading::program_html))]
 fn append_program(sum: Option<[u8; 32]>, out: &mut Vec<u8>) -> Result<(), NoMemory>
     ensures { OnOk result (out.new.items ≡ out.old.items ++ program_html sum) }
 {
@@ -75,23 +92,25 @@ fn append_program(sum: Option<[u8; 32]>, out: &mut Vec<u8>) -> Result<(), NoMemo
 }
 
 // Appends the row of the sum of what the page is of, where it is known.
+#[tactic(auto, unfolding(crate::specs::Heading::ledgers_html))]
 fn append_ledgers(sum: LedgerSum, out: &mut Vec<u8>) -> Result<(), NoMemory>
     ensures { OnOk result (out.new.items ≡ out.old.items ++ ledgers_html sum) }
 {
     match sum {
-        LedgerSum::Unknown => Ok(()),
+        LedgerSum::NoLedger => Ok(()),
         LedgerSum::Ledger(sum) => append_sum(b"SHA-256 of the ledger", &sum, out),
         LedgerSum::Folder(sum) => append_sum(b"SHA-256 of the list of its ledgers", &sum, out),
     }
 }
 
 // Appends the row of a sum.
+#[tactic(auto, unfolding(crate::specs::Heading::sum_html))]
 fn append_sum(name: &[u8], sum: &[u8; 32], out: &mut Vec<u8>) -> Result<(), NoMemory>
     ensures { OnOk result (out.new.items ≡ out.old.items ++ sum_html name.now sum.now) }
 {
-    append_name(name, out)?;
-    out.extend_from_slice(b"<code>")?;
+    out.extend_from_slice(ROW)?;
+    out.extend_from_slice(name)?;
+    out.extend_from_slice(SUM)?;
     append_hex(sum, out)?;
-    out.extend_from_slice(b"</code>")?;
-    append_end(out)
+    out.extend_from_slice(SUM_END)
 }

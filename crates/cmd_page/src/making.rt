@@ -8,7 +8,7 @@ ghost use Rattle.cmd_ledgers.specs.Told.{IsToldOf};
 ghost use Rattle.cmd_page.specs.Counting.{census_numbers};
 ghost use Rattle.cmd_page.specs.Figures.{AreFigures, AreFiguresOf, picture_limit};
 ghost use Rattle.cmd_page.specs.Page.{IsPage, IsPageWith, champions_html, ones_champions_html};
-ghost use Rattle.cmd_page.specs.Style.{champions_text};
+ghost use Rattle.cmd_page.specs.declared.style.TheConstants.{CHAMPIONS as Champions_text};
 ghost use Rattle.cmd_page.specs.inside.{bytes_of_page};
 
 use crate::census::{Census, census_of};
@@ -17,7 +17,7 @@ use crate::figures::append_figures;
 use crate::heading::{Heading, append_origin};
 use crate::rows::append_items;
 use crate::steps::append_steps;
-use crate::style;
+use crate::style::{CHAMPIONS, HOLDOUTS, ITEMS_END, ONES_CHAMPIONS, ROWS_END};
 use crate::summary::{
     append_opening, append_parts, append_summary, append_where_some, record_count,
 };
@@ -75,11 +75,11 @@ pub(crate) fn told_page(
     append_parts(&tally, &mut head)?;
     append_summary(&root, status, &tally, left, &mut head)?;
     append_origin(heading, &mut head)?;
-    head.extend_from_slice(style::rows_end())?;
+    head.extend_from_slice(ROWS_END)?;
     append_census(root.states(), record_count(&tally), census, &mut head)?;
     append_steps(tally.best, &census.steps, &mut head)?;
     append_champions(alloc, tally.best, champions, ones_champions, &mut head)?;
-    append_where_some(tally.holdouts, style::holdouts(), &mut head)?;
+    append_where_some(tally.holdouts, HOLDOUTS, &mut head)?;
     Ok(MadePage {
         head,
         holdouts,
@@ -114,17 +114,18 @@ fn append_champions_of(
 ) -> Result<(), NoMemory>
     ensures { OnOk result ((figures : List ℕ) × AreFiguresOf best picture_limit (into_iter_items champions) figures
         × (out.new.items ≡ out.old.items
-        ++ (champions_text ++ figures ++ ones_champions_html (into_iter_items ones_champions)))) }
+        ++ (Champions_text.now ++ figures ++ ones_champions_html (into_iter_items ones_champions)))) }
 {
-    out.extend_from_slice(style::champions())?;
+    out.extend_from_slice(CHAMPIONS)?;
     append_figures(alloc, best, champions, out)?;
     append_ones_champions(ones_champions, out)
 }
 
+#[tactic(auto, unfolding(crate::specs::Page::ones_champions_html))]
 fn append_ones_champions(ones_champions: Champions, out: &mut Vec<u8>) -> Result<(), NoMemory>
     ensures { OnOk result (out.new.items ≡ out.old.items ++ ones_champions_html (into_iter_items ones_champions)) }
 {
-    out.extend_from_slice(style::ones_champions())?;
+    out.extend_from_slice(ONES_CHAMPIONS)?;
     append_items(ones_champions, out)?;
-    out.extend_from_slice(style::items_end())
+    out.extend_from_slice(ITEMS_END)
 }

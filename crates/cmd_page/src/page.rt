@@ -3,20 +3,23 @@ ghost use Rattle.std.specs.Prelude.{◌≡◌, ◌⊎◌, ℕ, List, IfOk, IfErr
 ghost use Rattle.std.specs.Io.KnownBytes.{Appends};
 ghost use Rattle.cmd_ledgers.specs.LedgerReport.{WritesLedger};
 ghost use Rattle.cmd_ledgers.specs.Reading.{AreFirstBytes, EndsReading};
+ghost use Rattle.sha2.specs.Sha256.{sha256};
+ghost use Rattle.cmd_page.specs.Heading.{ledger_heading};
 ghost use Rattle.cmd_page.specs.Page.{IsPage};
 
-use crate::heading::Heading;
+use crate::heading::{Heading, LedgerSum, Maker};
 use crate::making::page_of;
+use crate::summed::load_summed;
 use crate::writing::write_made;
-use cmd_ledgers::{load_from, outcome_by};
+use cmd_ledgers::outcome_by;
 use cmd_options::{Ended, Outcome, Stopped};
 use ledger::{Board, Left};
 use std::alloc::Global;
 use std::io::{Read, Write};
 
-/// Writes the page of a board under a heading, and says what wasn't kept of its ledger. What
-/// grows with the number of holdouts is written a piece at a time. Where memory is refused, nothing was written.
-pub fn write_page<W: Write>(
+// Writes the page of a board under a heading, and says what wasn't kept of its ledger. What grows with the number of
+// holdouts is written a piece at a time. Where memory is refused, nothing was written.
+pub(crate) fn write_page<W: Write>(
     alloc: Global,
     heading: &Heading<'_>,
     board: &Board,
@@ -32,21 +35,28 @@ pub fn write_page<W: Write>(
     Ok(())
 }
 
-/// Writes the page of the ledger that a reader has in its first bytes, up to a limit, under a heading: accepted where the
-/// board is complete and all was kept. Answers what is left as well.
+/// Writes the page of the ledger that a reader has in its first bytes, up to a limit, under a title, with the SHA-256 of these
+/// very bytes, which are read once: accepted where the board is complete and all was kept. Answers what is left as well.
 pub fn write_ledger_page<R: Read, W: Write>(
     alloc: Global,
-    heading: &Heading<'_>,
+    title: &str,
+    maker: &Maker<'_>,
     from: &mut R,
     limit: u64,
     answers: &mut W,
 ) -> Result<(Outcome, Left), Stopped>
     ensures ok { IfOk result (λ r. (text : List ℕ) × AreFirstBytes (R.remaining from.old) limit text
-        × WritesLedger (IsPage heading.now) text r.0 r.1 (W.contents answers.old) (W.contents answers.new)) }
+        × WritesLedger (IsPage (ledger_heading title.now maker.now.version.now maker.now.sum (sha256 text))) text
+        r.0 r.1 (W.contents answers.old) (W.contents answers.new)) }
     ensures err { IfErr result (λ e. (e ≡ Stopped.Ended Ended.Stream)
         ⊎ (EndsReading (R.remaining from.old) limit e × (answers.new ≡ answers.old))) }
 {
-    let (board, left) = load_from(alloc, from, limit)?;
-    write_page(alloc, heading, &board, &left, answers)?;
+    let (board, left, sum) = load_summed(alloc, from, limit)?;
+    let heading = Heading {
+        title,
+        maker: *maker,
+        ledgers: LedgerSum::Ledger(sum),
+    };
+    write_page(alloc, &heading, &board, &left, answers)?;
     Ok((outcome_by(board.status(), &left), left))
 }

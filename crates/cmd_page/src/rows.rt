@@ -1,34 +1,34 @@
-// Rows of a name and a value, and tables in a text.
-ghost use Rattle.std.specs.Prelude.{◌≡◌, ◌++◌, codes, decimal, OnOk};
+// Rows of a name and a value, and tables in a list.
+ghost use Rattle.std.specs.Prelude.{◌≡◌, ◌++◌, decimal, OnOk};
 ghost use Rattle.std.specs.Vec.Iter.{into_iter_items};
 ghost use Rattle.cmd_page.specs.Escaped.{code_html};
-ghost use Rattle.cmd_page.specs.Page.{item_html, items_html};
-ghost use Rattle.cmd_page.specs.Row.{count_html, most_html, row_html};
+ghost use Rattle.cmd_page.specs.Row.{count_html, item_html, items_html, most_html, row_html};
 
 use crate::groups::append_grouped;
+use crate::markup::{CELL, CODE, CODE_END, ITEM, ITEM_END, ROW, ROW_END};
+use itoa::Buffer;
 use kind_evidence::NoMemory;
 use machine_text::{TEXT_BYTES, Table};
 use std::vec::IntoIter;
-use text::append_number;
 
 // Appends the row of a number.
+#[tactic(auto, unfolding(crate::specs::Row::row_html))]
 pub(crate) fn append_count(name: &[u8], n: u64, out: &mut Vec<u8>) -> Result<(), NoMemory>
     ensures { OnOk result (out.new.items ≡ out.old.items ++ count_html name.now n) }
 {
-    append_name(name, out)?;
+    out.extend_from_slice(ROW)?;
+    out.extend_from_slice(name)?;
+    out.extend_from_slice(CELL)?;
     append_grouped(n, out)?;
-    append_end(out)
+    out.extend_from_slice(ROW_END)
 }
 
 // Appends the row of a number that is named by another.
 pub(crate) fn append_numbered(name: u64, n: u64, out: &mut Vec<u8>) -> Result<(), NoMemory>
     ensures { OnOk result (out.new.items ≡ out.old.items ++ count_html (decimal name) n) }
 {
-    out.extend_from_slice(b"<tr><th scope='row'>")?;
-    append_number(name, out)?;
-    out.extend_from_slice(b"</th><td>")?;
-    append_grouped(n, out)?;
-    append_end(out)
+    let mut buffer = Buffer::new();
+    append_count(buffer.format(name).as_bytes(), n, out)
 }
 
 // Appends the row of a greatest number, where there is one.
@@ -46,29 +46,15 @@ pub(crate) fn append_greatest(
 }
 
 // Appends a row.
+#[tactic(auto, unfolding(crate::specs::Row::row_html))]
 fn append_row(name: &[u8], value: &[u8], out: &mut Vec<u8>) -> Result<(), NoMemory>
     ensures { OnOk result (out.new.items ≡ out.old.items ++ row_html name.now value.now) }
 {
-    append_name(name, out)?;
-    out.extend_from_slice(value)?;
-    append_end(out)
-}
-
-// Appends what stands behind the value of a row.
-pub(crate) fn append_end(out: &mut Vec<u8>) -> Result<(), NoMemory>
-    ensures { OnOk result (out.new.items ≡ out.old.items ++ codes "</td></tr>\n") }
-{
-    out.extend_from_slice(b"</td></tr>\n")
-}
-
-// Appends what stands before the value of a row.
-pub(crate) fn append_name(name: &[u8], out: &mut Vec<u8>) -> Result<(), NoMemory>
-    ensures { OnOk result (out.new.items ≡ out.old.items
-        ++ (codes "<tr><th scope='row'>" ++ name.now ++ codes "</th><td>")) }
-{
-    out.extend_from_slice(b"<tr><th scope='row'>")?;
+    out.extend_from_slice(ROW)?;
     out.extend_from_slice(name)?;
-    out.extend_from_slice(b"</th><td>")
+    out.extend_from_slice(CELL)?;
+    out.extend_from_slice(value)?;
+    out.extend_from_slice(ROW_END)
 }
 
 // Appends a list's item for each table.
@@ -82,20 +68,22 @@ pub(crate) fn append_items(tables: IntoIter<Table>, out: &mut Vec<u8>) -> Result
 }
 
 // Appends the item of a table.
+#[tactic(auto, unfolding(crate::specs::Row::item_html))]
 fn append_item(t: &Table, out: &mut Vec<u8>) -> Result<(), NoMemory>
     ensures { OnOk result (out.new.items ≡ out.old.items ++ item_html t.now) }
 {
-    out.extend_from_slice(b"<li>")?;
+    out.extend_from_slice(ITEM)?;
     append_code(t, out)?;
-    out.extend_from_slice(b"</li>\n")
+    out.extend_from_slice(ITEM_END)
 }
 
-/// Appends a table's text as code. It needs no escaping.
-pub fn append_code(t: &Table, out: &mut Vec<u8>) -> Result<(), NoMemory>
+// Appends a table's text as code. It needs no escaping.
+#[tactic(auto, unfolding(crate::specs::Escaped::code_html))]
+pub(crate) fn append_code(t: &Table, out: &mut Vec<u8>) -> Result<(), NoMemory>
     ensures { OnOk result (out.new.items ≡ out.old.items ++ code_html t.now) }
 {
     let mut buf = [0; TEXT_BYTES];
-    out.extend_from_slice(b"<code>")?;
+    out.extend_from_slice(CODE)?;
     out.extend_from_slice(t.text(&mut buf))?;
-    out.extend_from_slice(b"</code>")
+    out.extend_from_slice(CODE_END)
 }

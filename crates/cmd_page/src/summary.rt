@@ -1,35 +1,54 @@
 // What a page says before it counts: its title, and how the board stands.
 ghost use Rattle.std.specs.Prelude.{◌≡◌, ◌++◌, OnOk};
-ghost use Rattle.cmd_page.specs.Page.{opening_html, parts_html, record_count, where_found, where_some, root_html, status_html, left_html, left_line_html, verdicts_html, greatest_html, tally_html, summary_html};
+ghost use Rattle.cmd_page.specs.Page.{opening_html, start_html, parts_html, record_count, where_found, where_some, root_html, status_html, left_html, left_line_html, verdicts_html, greatest_html, tally_html, summary_html};
 
 use crate::escape::append_escaped;
 use crate::rows::{append_code, append_count, append_greatest};
 use crate::sentence::append_sentence;
-use crate::style;
+use crate::style::{
+    HALTING_LINKS, HEADING, HOLDOUTS_LINK, LOOK, PAGE_START, PARTS, RECORD_LINKS, STATUS, policy,
+};
 use kind_evidence::NoMemory;
 use ledger::{Left, Status, Tally};
 use machine_text::Table;
-use text::append_number;
+use std::io::Write;
 
-/// Appends the beginning of a page under a title, of any bytes, up to the end of its heading.
-pub fn append_opening(title: &[u8], out: &mut Vec<u8>) -> Result<(), NoMemory>
+// About a root's text, and before the rows of a tally.
+const ROOT: &[u8] = b"<p>Root ";
+
+const ROOT_END: &[u8] = b"</p>\n<table>\n";
+
+// Appends the beginning of a page under a title, of any bytes, up to the end of its heading.
+#[tactic(auto, unfolding(crate::specs::Page::opening_html))]
+pub(crate) fn append_opening(title: &[u8], out: &mut Vec<u8>) -> Result<(), NoMemory>
     ensures { OnOk result (out.new.items ≡ out.old.items ++ opening_html title.now) }
 {
-    style::append_opening(out)?;
+    append_start(out)?;
     append_escaped(title, out)?;
-    out.extend_from_slice(style::heading())?;
+    out.extend_from_slice(HEADING)?;
     append_escaped(title, out)
 }
 
+// Appends the beginning, up to the title.
+#[tactic(auto, unfolding(crate::specs::Page::start_html))]
+fn append_start(out: &mut Vec<u8>) -> Result<(), NoMemory>
+    ensures { OnOk result (out.new.items ≡ out.old.items ++ start_html) }
+{
+    out.extend_from_slice(PAGE_START)?;
+    out.extend_from_slice(policy())?;
+    out.extend_from_slice(LOOK)
+}
+
 // Appends the links to the parts that are there, and what stands before how the board stands.
+#[tactic(auto, unfolding(crate::specs::Page::parts_html))]
 pub(crate) fn append_parts(tally: &Tally, out: &mut Vec<u8>) -> Result<(), NoMemory>
     ensures { OnOk result (out.new.items ≡ out.old.items ++ parts_html tally.now) }
 {
-    out.extend_from_slice(style::parts())?;
-    append_where_some(record_count(tally), style::record_links(), out)?;
-    append_where_found(tally.best, style::halting_links(), out)?;
-    append_where_some(tally.holdouts, style::holdouts_link(), out)?;
-    out.extend_from_slice(style::status())
+    out.extend_from_slice(PARTS)?;
+    append_where_some(record_count(tally), RECORD_LINKS, out)?;
+    append_where_found(tally.best, HALTING_LINKS, out)?;
+    append_where_some(tally.holdouts, HOLDOUTS_LINK, out)?;
+    out.extend_from_slice(STATUS)
 }
 
 // Of how many tables there are records.
@@ -104,18 +123,21 @@ fn append_left(left: &Left, out: &mut Vec<u8>) -> Result<(), NoMemory>
 fn append_left_from(line: u64, out: &mut Vec<u8>) -> Result<(), NoMemory>
     ensures { OnOk result (out.new.items ≡ out.old.items ++ left_line_html line) }
 {
-    out.extend_from_slice(b"<p class='left'>From line ")?;
-    append_number(line, out)?;
-    out.extend_from_slice(b" on, the ledger isn't kept.</p>\n")
+    write!(
+        out,
+        "<p class='left'>From line {line} on, the ledger isn't kept.</p>\n"
+    )
+    .map_err(|_| NoMemory)
 }
 
 // Appends the root, and what stands before the rows of a tally.
+#[tactic(auto, unfolding(crate::specs::Page::root_html))]
 fn append_root(root: &Table, out: &mut Vec<u8>) -> Result<(), NoMemory>
     ensures { OnOk result (out.new.items ≡ out.old.items ++ root_html root.now) }
 {
-    out.extend_from_slice(b"<p>Root ")?;
+    out.extend_from_slice(ROOT)?;
     append_code(root, out)?;
-    out.extend_from_slice(b"</p>\n<table>\n")
+    out.extend_from_slice(ROOT_END)
 }
 
 // Appends the rows of a tally.

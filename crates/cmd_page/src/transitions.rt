@@ -2,27 +2,21 @@
 ghost use Rattle.std.specs.Prelude.{◌≡◌, ◌<◌, ◌≤◌, ◌++◌, Some, IfSome, OnOk};
 ghost use Rattle.machine_text.specs.Limits.{state_limit};
 ghost use Rattle.machine_text.specs.Text.{direction_byte, entry_text, symbol_byte};
-ghost use Rattle.cmd_page.specs.Transitions.{state_html, states_html, symbols_html, transition_html, transitions_html};
+ghost use Rattle.cmd_page.specs.Transitions.{state_html, states_html, transitions_html};
 
+use crate::markup::{CELL, NEXT_CELL, ROW, ROW_END, TABLE_END};
+use crate::style::SYMBOLS;
 use kind_evidence::NoMemory;
 use machine_text::{Dir, Entry, State, Sym, Table};
 
-/// Appends a table as a table of its transitions, a row for each state.
+// Appends a table as a table of its transitions, a row for each state.
 #[tactic(auto, unfolding(crate::specs::Transitions::transitions_html))]
-pub fn append_transitions(t: &Table, out: &mut Vec<u8>) -> Result<(), NoMemory>
+pub(crate) fn append_transitions(t: &Table, out: &mut Vec<u8>) -> Result<(), NoMemory>
     ensures { OnOk result (out.new.items ≡ out.old.items ++ transitions_html t.now) }
 {
-    out.extend_from_slice(symbols())?;
+    out.extend_from_slice(SYMBOLS)?;
     append_states(t, out)?;
-    out.extend_from_slice(b"</table>\n")
-}
-
-// The symbols that are read, above the columns.
-#[tactic(auto, unfolding(crate::specs::Transitions::symbols_html))]
-fn symbols() -> &'static [u8]
-    ensures { result.now ≡ symbols_html }
-{
-    b"<table class='transitions'>\n<tr><td></td><th scope='col'>0</th><th scope='col'>1</th></tr>\n"
+    out.extend_from_slice(TABLE_END)
 }
 
 // Appends the row of each state.
@@ -42,24 +36,16 @@ fn append_state(t: &Table, q: u8, out: &mut Vec<u8>) -> Result<(), NoMemory>
     requires few { t.now.states ≤ state_limit }
     ensures { OnOk result (out.new.items ≡ out.old.items ++ state_html t.now q) }
 {
-    out.extend_from_slice(b"<tr><th scope='row'>")?;
+    out.extend_from_slice(ROW)?;
     out.push(b'A' + q)?;
-    out.extend_from_slice(b"</th>")?;
-    append_transition(t.get(State(q), Sym::Zero), out)?;
-    append_transition(t.get(State(q), Sym::One), out)?;
-    out.extend_from_slice(b"</tr>\n")
+    out.extend_from_slice(CELL)?;
+    append_entry(t.get(State(q), Sym::Zero), out)?;
+    out.extend_from_slice(NEXT_CELL)?;
+    append_entry(t.get(State(q), Sym::One), out)?;
+    out.extend_from_slice(ROW_END)
 }
 
 // Appends what is done on a pair.
-fn append_transition(e: Option<Entry>, out: &mut Vec<u8>) -> Result<(), NoMemory>
-    requires { IfSome e (λ e. e.next.0 < state_limit) }
-    ensures { OnOk result (out.new.items ≡ out.old.items ++ transition_html e) }
-{
-    out.extend_from_slice(b"<td>")?;
-    append_entry(e, out)?;
-    out.extend_from_slice(b"</td>")
-}
-
 fn append_entry(e: Option<Entry>, out: &mut Vec<u8>) -> Result<(), NoMemory>
     requires { IfSome e (λ e. e.next.0 < state_limit) }
     ensures { OnOk result (out.new.items ≡ out.old.items ++ entry_text e) }

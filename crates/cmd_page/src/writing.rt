@@ -8,8 +8,8 @@ ghost use Rattle.cmd_page.specs.inside.{bytes_of_page};
 
 use crate::entries::entry_count;
 use crate::making::MadePage;
-use crate::script::pass_script;
-use crate::style;
+use crate::script::SCRIPT;
+use crate::style::ENDING;
 use cmd_ledgers::pass;
 use itoa::Buffer;
 use ledger::Holdouts;
@@ -37,9 +37,9 @@ fn pass_ending<W: Write>(holdouts: u64, piece: &mut Vec<u8>, answers: &mut W) ->
         (ending_html holdouts)) }
 {
     if holdouts == 0 {
-        pass(style::ending(), piece, answers)
+        pass(ENDING, piece, answers)
     } else {
-        pass_script(piece, answers)
+        pass(SCRIPT, piece, answers)
     }
 }
 

@@ -10,6 +10,7 @@ use crate::watch::Watch;
 use crate::watched_file::WatchedFile;
 use cmd_nodes::{Network, Sockets};
 use cmd_options::{Ended, ended_by};
+use cmd_page::sum_of;
 use files::Disk;
 use std::cell::RefCell;
 use std::env;
@@ -18,7 +19,6 @@ use std::io::{self, ErrorKind, IsTerminal, Write};
 use std::net::{TcpListener, TcpStream};
 use std::os::unix::fs::MetadataExt;
 use std::time::{Clock, Duration};
-use sums::sum_of;
 
 /// The files, the clock and the sockets of the system.
 #[derive(Drop)]

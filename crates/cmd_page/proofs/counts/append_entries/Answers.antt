@@ -1,7 +1,7 @@
 use Rattle.std.proofs.Common.{ℕ, List, ◌++◌, ◌+◌, ◌-◌, ◌*◌, decimal, flat_map, slice_index, sym, ap, ◌∙◌, append_assoc}
 use Rattle.std.specs.List.{range_with_len}
 use Rattle.cmd_page.specs.Row.{count_html}
-use Rattle.cmd_page.proofs.PageLaws.{rows_from}
+use Rattle.cmd_page.proofs.RowLaws.{rows_from}
 use Rattle.cmd_page.proofs.counts.append_entries.Goals as goal
 
 pub loop-k-preserved : goal.loop-k-preserved

@@ -1,6 +1,6 @@
 use Rattle.std.proofs.Common.{◌≡◌, ◌++◌}
 use Rattle.std.specs.Vec.Iter.{into_iter_items}
-use Rattle.cmd_page.specs.Page.{items_html}
+use Rattle.cmd_page.specs.Row.{items_html}
 use Rattle.cmd_page.proofs.rows.append_items.Given as goal
 
 -- what was appended, and the items of the tables that are left, are the items of all

@@ -2,7 +2,7 @@ use Rattle.std.proofs.Common.{ℕ, List, ◌++◌}
 use Rattle.std.specs.Prelude.{codes}
 use Rattle.cmd_ledgers.proofs.Reports.{on_ok, one_more}
 use Rattle.cmd_page.specs.Groups.{grouped}
-use Rattle.cmd_page.proofs.PageLaws.{ended}
+use Rattle.cmd_page.proofs.Appending.{ended}
 use Rattle.cmd_page.proofs.sentence.append_ones.Goals as goal
 
 pub returns : goal.returns

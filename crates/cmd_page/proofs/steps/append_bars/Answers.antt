@@ -1,7 +1,7 @@
 use Rattle.std.proofs.Common.{ℕ, List, ◌++◌, ◌+◌, ◌-◌, flat_map, slice_index, sym, ap, ◌∙◌, append_assoc}
 use Rattle.std.specs.List.{range_with_len}
 use Rattle.cmd_page.specs.Steps.{bar_svg}
-use Rattle.cmd_page.proofs.PageLaws.{rows_from}
+use Rattle.cmd_page.proofs.RowLaws.{rows_from}
 use Rattle.cmd_page.proofs.steps.append_bars.Goals as goal
 
 pub loop-k-preserved : goal.loop-k-preserved

@@ -1,7 +1,7 @@
 use Rattle.std.proofs.Common.{ℕ, List, ◌++◌, ◌+◌, ◌-◌, ◌<◌, ◌≤◌, flat_map, sym, ap, ◌∙◌, append_assoc, append-nil, arith}
 use Rattle.std.specs.List.{range_with_len}
 use Rattle.cmd_page.specs.Transitions.{state_html}
-use Rattle.cmd_page.proofs.PageLaws.{rows_from, rows_end}
+use Rattle.cmd_page.proofs.RowLaws.{rows_from, rows_end}
 use Rattle.cmd_page.proofs.transitions.append_states.Goals as goal
 
 pub loop-q-preserved : goal.loop-q-preserved

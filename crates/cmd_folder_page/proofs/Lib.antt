@@ -1,2 +1,0 @@
-pub mod PageTold
-pub mod Listing

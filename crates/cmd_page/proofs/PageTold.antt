@@ -1,0 +1,70 @@
+-- The page of a whole is that of the records of all.
+use Rattle.std.proofs.Common.{ℕ, ◌<◌, ◌^◌, Bool, List, length, Option, None, IfOk, Result, Ok, Err, [], inl, inr, refl, sym, subst, ap, ◌∙◌, append-nil}
+use Rattle.machine_text.specs.Packed.{Packed}
+use Rattle.cert.specs.Claim.{Recorded}
+use Rattle.ledger.specs.Contents.{Contents, IsOpenOn}
+use Rattle.ledger.specs.Tally.{AreAll}
+use Rattle.ledger.specs.declared.left.Left.TheVariants.{Nothing}
+use Rattle.parts.specs.Parts.{joined_with}
+use Rattle.parts.specs.Whole.{Collected, IsWhole}
+use Rattle.cmd_options.specs.declared.ended.Ended.{Ended}
+use Rattle.cmd_options.specs.declared.outcome.Outcome.{Outcome}
+use Rattle.cmd_page.specs.Page.{IsPage, IsPageWith}
+use Rattle.cmd_page.specs.Counting.{HasCounted, census_numbers}
+use Rattle.cmd_page.specs.declared.census.Census.{Census}
+use Rattle.cmd_page.proofs.PageLaws.{counted_page, exact_census}
+use Rattle.cmd_parts.specs.Join.{EndsTelling, FailsFile, Findings, HoldsTree, SaysFirst, TellsAll, TellsParts, ended_by}
+use Rattle.std.specs.Io.KnownBytes.{Appends}
+use Rattle.cmd_parts.specs.Gather.{IsGathered}
+use Rattle.cmd_page.specs.Folder.{IsListSum, TellsFolder, heading_of}
+
+pub page_told : (title version : List ℕ) (program : Option (List ℕ)) (roots : List Packed) (sum : List ℕ) (Finds : Findings) (folder : List ℕ) (said new_said faults new_faults : Option (List ℕ)) (whole : Collected) (sound : Bool) (census : Census) (r : Result Outcome Ended)
+    → IsGathered Finds folder whole sound None None faults new_faults (λ (rs : List Recorded). HasCounted rs census)
+    → ((parts : List Contents) → IsWhole whole parts → length (joined_with whole.trunk.records parts) < 2 ^ 64)
+    → IfOk r (λ o. (parts : List Contents) → IsWhole whole parts
+    → TellsParts (IsPageWith (census_numbers census) (heading_of title version program sum)) whole.trunk parts sound said new_said o)
+    → IsListSum Finds folder roots sum → AreAll (IsOpenOn whole.trunk) roots
+    → IfOk r (TellsFolder title version program Finds folder said new_said faults new_faults)
+page_told title version program roots sum Finds folder said new_said faults new_faults whole sound census (Ok o) gathered few tells is_sum are_open =
+    let parts = gathered.parts in
+    let is = gathered.whole_is in
+    let told = tells parts is in
+    let rs = joined_with whole.trunk.records parts in
+    let all : TellsAll (IsPage (heading_of title version program sum)) Finds folder None None said new_said faults new_faults o = record {
+      trunk = whole.trunk;
+      parts = parts;
+      lines = gathered.lines;
+      holds = gathered.holds;
+      is_board = is.trunk_is;
+      are_parts = is.are_parts;
+      tells = record {
+        text = told.text;
+        is_text = counted_page (heading_of title version program sum) whole.trunk.root rs Nothing told.text census (exact_census rs census gathered.counts (few parts is)) is.trunk_is.is_table.limit told.is_text;
+        says = told.says;
+        status = told.status;
+        stands = told.stands;
+        ends = told.ends ∙ ap (λ (s : Bool). ended_by told.status s) gathered.sound;
+      };
+      warns = gathered.says;
+      writes = gathered.writes;
+    } in
+    record { roots = roots; sum = sum; is_sum = is_sum; tells = all; are_open = are_open }
+page_told title version program roots sum Finds folder said new_said faults new_faults whole sound census (Err e) gathered few tells is_sum are_open = tt
+
+-- all is gathered, but the list of the ledgers isn't summed up
+pub ends_unlisted : (Finds : Findings) (folder : List ℕ) (e : Ended) (trunk : Contents) (parts : List Contents) (lines : List ℕ) (said faults new_faults : Option (List ℕ))
+    → HoldsTree Finds folder trunk parts lines → Appends faults new_faults lines → FailsFile e → EndsTelling Finds folder e said said faults new_faults
+ends_unlisted Finds folder e trunk parts lines said faults new_faults holds says why =
+    let first : SaysFirst Finds folder faults new_faults = record {
+      trunk = trunk;
+      left = holds.left;
+      reads = holds.reads;
+      met = holds.roots;
+      later = [];
+      are_open = subst (AreAll (IsOpenOn trunk)) (sym (append-nil holds.roots)) holds.are_open;
+      parts = parts;
+      said = holds.said;
+      are_met = holds.are_met;
+      says = subst (Appends faults new_faults) holds.all_lines says;
+    } in
+    record { why = inl (inl (inl why)); untold = inl refl; warns = inl (inr first) }

@@ -82,6 +82,8 @@ COMMANDS = [
     (["report", "--why", "torn"], b"", {"torn": ONE + b"1RA---"}, None),
     (["run", "1"], b"", {}, None),
     (["run", "2", "--workers", "2"], b"", {}, None),
+    (["walk", "2"], b"", {}, None),
+    (["walk", "1", "--json"], b"", {}, None),
     (["run", "1", "--ledger", "new"], b"", {}, "new"),
     (["run", "1", "--ledger", "one"], b"", {"one": ONE}, "one"),
     (["coord", "1", "--ledger", "new"], FRAMES, {}, "new"),

@@ -2,7 +2,7 @@
 ghost use Rattle.cmd_options.specs.Ranges.{AreWithinRanges};
 
 use crate::call::Call;
-use crate::{folders, ledgers, lines, nodes, pictures, texts, working};
+use crate::{folders, ledgers, lines, nodes, pictures, texts, walks, working};
 use cmd_nodes::{Network, Sockets};
 use cmd_options::{Ended, Options, Outcome, told};
 use cmd_progress::ReadingTold;
@@ -75,6 +75,7 @@ impl<S: Disk + Clock + Sockets + Network + ReadingTold, R: Read, W: Write, E: Wr
             } => nodes::serve(self, beginning, ledger, listening),
             Options::Work(options) => working::work(self, &options),
             Options::Run { settling, ledger } => nodes::run(self, &settling, ledger),
+            Options::Walk(walking) => walks::walk(self, &walking),
             Options::Loop { settling, ledger } => nodes::run_over_sockets(self, &settling, ledger),
             Options::Retry(retrying) => ledgers::retry(self, &retrying),
             Options::Merge(merging) => ledgers::merge(self, merging),

@@ -14,6 +14,7 @@ mod obeying;
 mod own_line;
 mod pictures;
 mod texts;
+mod walks;
 mod working;
 
 pub use executing::execute;

@@ -1,12 +1,13 @@
 -- The ranges of the options' numbers.
 use Rattle.std.specs.Prelude.{◌≡◌, ◌≤◌, None, IfSome}
 use Rattle.cmd_options.specs.declared.options.Options.{Options}
-use Rattle.cmd_options.specs.declared.options.Options.TheVariants.{Check, Decide, Explain, Show, Tables, Coord, Work, Run, Loop, Retry, Merge, Carry, Mend, Split, Settle, Join, Look, Draw, Page, Report}
+use Rattle.cmd_options.specs.declared.options.Options.TheVariants.{Check, Decide, Explain, Show, Tables, Coord, Work, Run, Loop, Retry, Merge, Carry, Mend, Split, Settle, Walk, Join, Look, Draw, Page, Report}
 use Rattle.cmd_options.specs.declared.options.Search.{Search}
 use Rattle.cmd_options.specs.declared.drawing.Drawing.{Drawing}
 use Rattle.cmd_options.specs.declared.options.Beginning.{Beginning}
 use Rattle.cmd_options.specs.declared.options.Settling.{Settling}
 use Rattle.cmd_options.specs.declared.options.Splitting.{Splitting}
+use Rattle.cmd_options.specs.declared.options.Walking.{Walking}
 use Rattle.cmd_options.specs.declared.options.Working.{Working}
 
 pub record IsWithinRange (s : Search) : Type 0 where
@@ -47,6 +48,12 @@ pub record IsSplitting (s : Splitting) : Type 0 where
   pub filled : s.filled ≤ 14
   pub search : IsWithinRange s.search
 
+pub record IsWalking (w : Walking) : Type 0 where
+  pub some_states : 1 ≤ w.states
+  pub states : w.states ≤ 7
+  pub saving : IfSome w.saving (λ saving. saving.dear ≤ 100000000)
+  pub search : IsWithinRange w.search
+
 pub record IsDrawing (d : Drawing) : Type 0 where
   pub some_rows : 1 ≤ d.rows
   pub rows : d.rows ≤ 10000
@@ -71,6 +78,7 @@ AreWithinRanges (Carry carrying) = Unit {0}
 AreWithinRanges (Mend mending) = Unit {0}
 AreWithinRanges (Split splitting) = IsSplitting splitting
 AreWithinRanges (Settle s) = IsWithinRange s.search
+AreWithinRanges (Walk walking) = IsWalking walking
 AreWithinRanges (Join joining) = Unit {0}
 AreWithinRanges (Look looking) = Unit {0}
 AreWithinRanges (Draw drawing) = IsDrawing drawing

@@ -23,8 +23,8 @@ pub use ledger_file::{Durability, LedgerFile};
 pub use number::Number;
 pub use options::{
     Beginning, Carrying, Checking, Deciding, Joining, LedgerSettling, Listening, Listing, Looking,
-    Mending, Merging, Options, Paging, Reporting, Retrying, Search, Settling, Showing, Splitting,
-    Working,
+    Mending, Merging, Options, Paging, Reporting, Retrying, Saving, Search, Settling, Showing,
+    Splitting, Walking, Working,
 };
 pub use outcome::Outcome;
 pub use std::alloc::AllocError as NoMemory;

@@ -46,6 +46,8 @@ pub enum Options<'a> {
         /// The coordinator's ledger; none where it is kept in memory.
         ledger: Option<LedgerFile<'a>>,
     },
+    /// `bb walk N [--root TABLE] [--save FILE [--dear K]] [--json] [--progress]` and the options of a search of `decide`
+    Walk(Walking<'a>),
     /// `bb retry FILE [--sync] [--progress]` and the options of a search of `decide`
     Retry(Retrying<'a>),
     /// `bb merge A B OUT`
@@ -186,6 +188,32 @@ pub struct LedgerSettling<'a> {
     pub search: Search<'a>,
     /// Whether to tell on standard error, while it goes on, how far it is.
     pub progress: bool,
+}
+
+/// How a tree is walked in one process, without a ledger.
+#[derive(Clone, Copy, Debug, PartialEq, Eq)]
+pub struct Walking<'a> {
+    /// How many states the machines have: 1 to 7.
+    pub states: u8,
+    /// The text of the table below which the tree is walked; none where it is the whole tree.
+    pub root: Option<&'a str>,
+    /// Where records are saved that were dear to find; none where none are.
+    pub saving: Option<Saving<'a>>,
+    /// How far certificates are searched for.
+    pub search: Search<'a>,
+    /// Whether to print the report as JSON.
+    pub json: bool,
+    /// Whether to tell on standard error, while it goes on, how far it is.
+    pub progress: bool,
+}
+
+/// Where records are saved that were dear to find.
+#[derive(Clone, Copy, Debug, PartialEq, Eq)]
+pub struct Saving<'a> {
+    /// The path of the file to which they are appended.
+    pub path: &'a str,
+    /// A record that says more steps than these is dear, whichever search found it: 0 to 100,000,000.
+    pub dear: u64,
 }
 
 /// How a tree is cut into a trunk and parts.

@@ -24,6 +24,8 @@ mod rows {
         default: Some("16"), help: "How many workers this process is, whose frames go over one stream" };
     pub(crate) const FILLED: Number = ranged! { name: "filled", value: Some("D"), least: 0, most: 14,
         default: Some("4"), help: "Decide the tables with fewer filled entries, leave the others to the parts" };
+    pub(crate) const DEAR: Number = ranged! { name: "dear", value: Some("K"), least: 0, most: 100_000_000,
+        default: Some("1000"), help: "With --save, append each record of more than K steps too" };
     pub(crate) const STEPS: Number = ranged! { name: "steps", value: Some("K"), least: 1, most: 100_000_000,
         default: Some("1000"), help: "Steps that each search runs a table at most" };
     pub(crate) const FROM: Number = ranged! { name: "from", value: Some("T"), least: 0, most: 100_000_000,
@@ -70,6 +72,10 @@ mod rows {
         help: "The ledger file that is written; it may be the same" };
     pub(crate) const LEDGER: Text = Text { name: "ledger", value: Some("FILE"),
         help: "The ledger file, which is created where it isn't there; none is kept without it" };
+    pub(crate) const ROOT: Text = Text { name: "root", value: Some("TABLE"),
+        help: "Walk the tree below this table alone" };
+    pub(crate) const SAVE: Text = Text { name: "save", value: Some("FILE"),
+        help: "Append the records to this file that were dear to find, for --known" };
     pub(crate) const LISTEN: Text = Text { name: "listen", value: Some("ADDR"),
         help: "Serve workers at HOST:PORT, at a port of 127.0.0.1, or at a socket file (its path has a `/`)" };
     pub(crate) const CONNECT: Text = Text { name: "connect", value: Some("TO"),

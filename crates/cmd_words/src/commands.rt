@@ -2,7 +2,7 @@
 use crate::arguments::*;
 use crate::help::{
     CARRY, COORD, DECIDE, DRAW, EXPLAIN, JOIN, LOOK, LOOP, MEND, MERGE, PAGE, RECORDS, REPORT,
-    RETRY, RUN, SETTLE, SHOW, SPLIT, TABLES, WORK,
+    RETRY, RUN, SETTLE, SHOW, SPLIT, TABLES, WALK, WORK,
 };
 use crate::words::Argument::{self, Flag, Number, Text, TextUnless};
 
@@ -24,7 +24,7 @@ pub(crate) const SEARCH: [Argument; 2] = [Text(KNOWN), Number(STEPS)];
 pub(crate) const SEARCH_BY_STAGES: [Argument; 1] = [Flag(HARD)];
 
 #[rattlefmt::skip]
-pub(crate) const COMMANDS: [CommandWords; 20] = [
+pub(crate) const COMMANDS: [CommandWords; 21] = [
     CommandWords { name: "check", searches: false, after_help: RECORDS,
         about: "Checks a record a line on standard input, and prints an answer a line.",
         arguments: &[Flag(LINE_JSON), Flag(RECORD_WHY)] },
@@ -44,6 +44,9 @@ pub(crate) const COMMANDS: [CommandWords; 20] = [
         about: "Settles the tree of all machines of N states in this process, and prints the report.",
         arguments: &[Number(STATES), Number(WORKERS), Text(LEDGER), Flag(LEDGER_SYNC), Number(LOSE), Number(ROUNDS),
             Flag(JSON), Flag(PROGRESS)] },
+    CommandWords { name: "walk", searches: true, after_help: WALK,
+        about: "Settles the tree of all machines of N states in one walk, without a ledger, and prints the report.",
+        arguments: &[Number(STATES), Text(ROOT), Text(SAVE), Number(DEAR), Flag(JSON), Flag(PROGRESS)] },
     CommandWords { name: "loop", searches: true, after_help: LOOP,
         about: "Does what `bb run` does, with sockets between the coordinator and its workers.",
         arguments: &[Number(STATES), Number(WORKERS), Text(LEDGER), Flag(LEDGER_SYNC), Number(ROUNDS), Flag(JSON),

@@ -113,6 +113,28 @@ with a readable table, `refused 405` another root); 2 a wrong command line; 3 ou
 (`refused memory`); 4 the ledger failed (`refused 604`), or a stream did (`refused 603`), or another process writes
 the ledger (`refused 606`), or known records couldn't be read (`refused 605`).";
 
+pub(crate) const WALK: &str =
+    "The tables of the tree are decided in depth first order: a certificate is looked for as `bb decide` does, and judged
+once. No record is kept, and so no ledger: of the tables that are decided only the numbers are, the champions and the
+holdouts. At the end comes the report, as by `bb report`, the same as that of `bb run` where all is settled. It takes
+little memory, however large the tree is: 16 bytes for each holdout, beside what the searches take. A walk that was
+stopped begins anew.
+
+With --root TABLE, a table of N states, it is the tree below that table alone. The report says `root TABLE`; its best is
+S(N) where TABLE has no entries.
+
+With --save FILE each record is appended to FILE, as soon as it is found, that a look-up would have saved time on: found
+by another search than runs and backward reasoning, with --hard by a later stage than the eighth, or of more than --dear
+steps. What was looked up isn't appended. The next walk is given FILE by --known.
+
+All goes in this process, on one processor; `contrib/walk.sh N` uses all. Standard error says how far it is: at a
+terminal on one line that is written over, elsewhere with --progress, a line a second.
+
+Exit status: 0 the report says complete; 1 it doesn't, or the root is refused (`refused 405`: it isn't a table of N
+states that names its states in order); 2 a wrong command line; 3 out of memory (`refused memory`); 4 a stream failed
+(`refused 603`), the file of records couldn't be written (`refused 604`), known records couldn't be read (`refused 605`),
+or another process writes the file of records (`refused 606`).";
+
 pub(crate) const LOOP: &str =
     "As `bb run`, but that the frames of each worker go over a connection of its own on 127.0.0.1, at most 4,096
 bytes at a time, and that none is lost. The report is the same.

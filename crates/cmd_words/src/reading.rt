@@ -3,11 +3,11 @@ ghost use Rattle.std.specs.Prelude.{◌≡◌, ◌≤◌, IfOk, IfSome};
 ghost use Rattle.cmd_options.specs.Ranges.{AreWithinRanges, IsSettling, IsWithinRange};
 
 use crate::arguments::{
-    CARRIED, COLUMNS, CONNECT, DAMAGED, DRAWN, ERA, EVERY, FILE, FILLED, FIRST, FOLD, FOLDER, FROM,
-    HARD, HEIGHT, HOLDOUTS, ID, IDS, JOIN_READ, JOINED, JSON, KNOWN, LEDGER, LINE_JSON, LISTEN,
-    LOOKED, LOSE, MENDED, MERGED, NORMAL, OLD, PAGED, PICTURES, PNG, PROGRESS, READ, RECORD_WHY,
-    ROUNDS, ROWS, RUN_STEPS, SECOND, SHOWN, SQUARE, STATES, STEPS, SYNC, TITLE, TRIES, WHY, WIDTH,
-    WITH_RECORDS, WORKERS,
+    CARRIED, COLUMNS, CONNECT, DAMAGED, DEAR, DRAWN, ERA, EVERY, FILE, FILLED, FIRST, FOLD, FOLDER,
+    FROM, HARD, HEIGHT, HOLDOUTS, ID, IDS, JOIN_READ, JOINED, JSON, KNOWN, LEDGER, LINE_JSON,
+    LISTEN, LOOKED, LOSE, MENDED, MERGED, NORMAL, OLD, PAGED, PICTURES, PNG, PROGRESS, READ,
+    RECORD_WHY, ROOT, ROUNDS, ROWS, RUN_STEPS, SAVE, SECOND, SHOWN, SQUARE, STATES, STEPS, SYNC,
+    TITLE, TRIES, WHY, WIDTH, WITH_RECORDS, WORKERS,
 };
 use crate::grammar::program;
 use crate::line_fault::LineFault;
@@ -16,7 +16,8 @@ use clap::{ArgMatches, Error};
 use cmd_options::{
     Beginning, COUNT, Carrying, Checking, DEPTH, Deciding, Drawing, Durability, FAR, GRAM, Joining,
     LedgerFile, LedgerSettling, Listening, Listing, Looking, Mending, Merging, NoMemory, Number,
-    Options, Paging, Reporting, Retrying, Search, Settling, Showing, Splitting, WORDS, Working,
+    Options, Paging, Reporting, Retrying, Saving, Search, Settling, Showing, Splitting, WORDS,
+    Walking, Working,
 };
 use std::alloc::Global;
 
@@ -52,6 +53,7 @@ fn asked<'a>(name: &str, command: &ArgMatches<'a>) -> Result<Options<'a>, LineFa
         "coord" => coord_options(command),
         "work" => work_options(command),
         "run" => run_options(command),
+        "walk" => walk_options(command),
         "loop" => loop_options(command),
         "retry" => retry_options(command),
         "merge" => Ok(merge_options(command)),
@@ -311,6 +313,30 @@ fn settling_of<'a>(matches: &ArgMatches<'a>, lose: Option<u64>) -> Result<Settli
         json: matches.get_flag(JSON.name),
         progress: matches.get_flag(PROGRESS.name),
     })
+}
+
+fn walk_options<'a>(walk: &ArgMatches<'a>) -> Result<Options<'a>, LineFault>
+    ensures { IfOk result AreWithinRanges }
+{
+    Ok(Options::Walk(Walking {
+        states: number_of(walk, STATES)? as u8,
+        root: walk.get_str(ROOT.name),
+        saving: saving_of(walk)?,
+        search: search_of(walk)?,
+        json: walk.get_flag(JSON.name),
+        progress: walk.get_flag(PROGRESS.name),
+    }))
+}
+
+// Where records are saved that were dear to find, if they are.
+fn saving_of<'a>(walk: &ArgMatches<'a>) -> Result<Option<Saving<'a>>, LineFault>
+    ensures { IfOk result (λ saving. IfSome saving (λ saving. saving.dear ≤ 100000000)) }
+{
+    let dear = number_of(walk, DEAR)?;
+    match walk.get_str(SAVE.name) {
+        Some(path) => Ok(Some(Saving { path, dear })),
+        None => Ok(None),
+    }
 }
 
 fn retry_options<'a>(retry: &ArgMatches<'a>) -> Result<Options<'a>, LineFault>

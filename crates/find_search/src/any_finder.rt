@@ -1,8 +1,9 @@
 // The finders that the command line can ask for.
 use crate::hard_finder::HardFinder;
 use crate::known_file::KnownFile;
+use crate::saving::Searcher;
 use backward::BackwardFinder;
-use cert::{Finder, Finders, OwnedCertificate};
+use cert::{Finder, Finders, OwnedCertificate, OwnedRecord};
 use cmd_options::{Ended, LETTERS, Search};
 use far::FarFinder;
 use find_counted::CountedFinder;
@@ -47,6 +48,37 @@ impl Finder for AnyFinder<'_> {
             AnyFinder::Hard(finder) => finder.find(t, budget),
         }
     }
+}
+
+impl Searcher for Finders<AnyFinder<'_>> {
+    fn was_dear(&self, record: &OwnedRecord, dear: u64) -> bool {
+        let mut is_late = is_of_later_kind(&record.certificate);
+        for finder in &self.finders {
+            match finder {
+                AnyFinder::Known(file) if file.has(&record.table) => return false,
+                AnyFinder::Hard(finder) => is_late = finder.was_late(),
+                _ => {}
+            }
+        }
+        match &record.certificate {
+            OwnedCertificate::Undecided => false,
+            OwnedCertificate::Halts(halts) => is_late || halts.steps > dear,
+            OwnedCertificate::Cycle(cycle) => is_late || cycle.j > dear,
+            OwnedCertificate::Translated(translated) => is_late || translated.j > dear,
+            _ => is_late,
+        }
+    }
+}
+
+// Whether a certificate is of a kind that neither runs nor backward reasoning find.
+fn is_of_later_kind(certificate: &OwnedCertificate) -> bool {
+    !matches!(
+        certificate,
+        OwnedCertificate::Halts(_)
+            | OwnedCertificate::Cycle(_)
+            | OwnedCertificate::Translated(_)
+            | OwnedCertificate::Backward(_)
+    )
 }
 
 // What is known; then those of the kinds, in the order of their letters, or the one that goes through the stages, where

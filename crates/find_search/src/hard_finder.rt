@@ -1,7 +1,7 @@
 // The finder that goes through the stages.
 use crate::loop_finder::{Found, LoopFinder};
 use crate::named_tables::NamedTables;
-use crate::stages::{COUNTS, DEPTH, HALTING_STEPS, LARGEST, STAGES, Stage};
+use crate::stages::{COUNTS, DEPTH, FIRST_STAGES, HALTING_STEPS, LARGEST, STAGES, Stage};
 use backward::BackwardFinder;
 use cert::{Finder, OwnedCertificate};
 use far::{FarFinder, OwnedFar};
@@ -27,6 +27,8 @@ pub struct HardFinder {
     cycle: CycleFinder,
     translated: TranslatedFinder,
     counted: CountedFinder,
+    // whether what was found last was found behind the first stages
+    was_late: bool,
 }
 
 impl HardFinder {
@@ -43,7 +45,13 @@ impl HardFinder {
             cycle: CycleFinder::new(alloc, MAX_TIME),
             translated: TranslatedFinder::new(alloc, MAX_TIME),
             counted: CountedFinder::new(alloc, COUNTS),
+            was_late: false,
         })
+    }
+
+    // Whether what it found last was found behind the first stages.
+    pub(crate) fn was_late(&self) -> bool {
+        self.was_late
     }
 
     // What a stage finds.
@@ -113,9 +121,10 @@ impl HardFinder {
 
 impl Finder for HardFinder {
     fn find(&mut self, t: &Table, budget: u64) -> Result<Option<OwnedCertificate>, NoMemory> {
-        for stage in STAGES {
-            let found = self.ask(stage, t, budget)?;
+        for (place, stage) in STAGES.iter().enumerate() {
+            let found = self.ask(*stage, t, budget)?;
             if found.is_some() {
+                self.was_late = place >= FIRST_STAGES;
                 return Ok(found);
             }
         }

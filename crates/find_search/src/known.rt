@@ -73,6 +73,11 @@ impl Known {
         Ok(None)
     }
 
+    // Whether something is known of a table.
+    pub(crate) fn has(&self, t: &Table) -> bool {
+        self.told.contains_key(t)
+    }
+
     // The record of a line, where that tells something: it claims something, and nothing is known of its table.
     fn news<'a>(&self, line: Option<&'a [u8]>) -> Option<Record<'a>>
         ensures { IsNews (known_of self.now) (read_line (lent line.entry)) (option_map recorded result) }

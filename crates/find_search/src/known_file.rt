@@ -2,6 +2,7 @@
 use crate::{Known, read_known, tell_refusals};
 use cmd_options::{Ended, Options, ended_by};
 use files::{Disk, Files, OnDisk};
+use machine_text::Table;
 use std::alloc::Global;
 use std::cell::RefCell;
 use std::io::Write;
@@ -37,6 +38,14 @@ impl<'a> KnownFile<'a> {
         }
     }
 
+    // Whether something is known of a table.
+    pub(crate) fn has(&self, t: &Table) -> bool {
+        match self.known.try_borrow() {
+            Ok(known) => known.has(t),
+            Err(_) => false,
+        }
+    }
+
     /// Says what was refused of it. Nothing hangs on whether that can be said.
     pub fn tell<E: Write>(&self, alloc: Global, faults: &mut E) {
         if let Ok(known) = self.known.try_borrow() {
@@ -53,6 +62,7 @@ fn path_in<'a>(asked: &Options<'a>) -> Option<&'a str> {
         Options::Run { settling, .. } | Options::Loop { settling, .. } => settling.search.known,
         Options::Split(splitting) => splitting.search.known,
         Options::Settle(settling) => settling.search.known,
+        Options::Walk(walking) => walking.search.known,
         Options::Work(working) => working.search.known,
         Options::Check(_)
         | Options::Explain { .. }

@@ -63,6 +63,10 @@ macro_rules! automata {
     };
 }
 
+// So many stages are the first ones: they settle nearly all tables, each in less time than a look-up among many records of
+// such tables would save.
+pub(crate) const FIRST_STAGES: usize = 8;
+
 // The stages, in their order.
 pub(crate) const STAGES: [Stage; 18] = [
     Stage::Names,

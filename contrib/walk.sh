@@ -1,0 +1,58 @@
+#!/bin/sh
+# Walks the tree of N states on all processors of this machine, and adds the reports up:
+#   contrib/walk.sh N [K] [OPTIONS OF bb walk..]
+# The tables with fewer than K filled entries (4 if it isn't said) are a trunk's; each table that this leaves open is the root
+# of a walk, and their trees are disjoint. Where there are no options they are --hard and the known records of five states that
+# no search of bb finds. BB names the program (./bb if it isn't set), JOBS how many walks go on at once. The report comes on
+# standard output; status 0 where it says complete, 1 where it doesn't.
+#
+# It adds, and proves nothing: what is proved is said of each report by itself. bb walk N, in one process, proves the whole, and
+# so do contrib/tree.sh and bb join, which keep all records.
+set -e
+states=${1:?"contrib/walk.sh N [K] [OPTIONS..]"}
+shift
+filled=4
+case $1 in [0-9]*) filled=$1; shift ;; esac
+[ $# -gt 0 ] || set -- --hard --known "$(dirname "$0")/../examples/five-states.known"
+# The script ./bb sums up its sources each time: it is asked once which program it runs.
+bb=${BB:-$(./bb --where)}
+jobs=${JOBS:-$(getconf _NPROCESSORS_ONLN)}
+folder=$(mktemp -d)
+trap 'rm -rf "$folder"' EXIT
+mkdir "$folder/reports"
+"$bb" split "$states" "$folder/tree" --filled "$filled" "$@" >&2
+"$bb" report "$folder/tree/trunk.ledger" > "$folder/trunk" || [ $? -eq 1 ]
+# A part's ledger has the name of its root. A walk that leaves holdouts ends with 1; what ends with more stops all.
+find "$folder/tree" -name '*.ledger' ! -name trunk.ledger -exec basename {} .ledger \; | LC_ALL=C sort > "$folder/roots"
+echo "$(wc -l < "$folder/roots") walks, $jobs at once" >&2
+xargs -P "$jobs" -I {} sh -c 'reports=$1 states=$2 root=$3; shift 3
+    "$0" walk "$states" --root "$root" "$@" > "$reports/$root" || [ $? -eq 1 ] || exit 255' \
+    "$bb" "$folder/reports" "$states" {} "$@" < "$folder/roots"
+# The trunk's open tables are the roots, which are counted with their walks.
+{ cat "$folder/trunk"; xargs -I {} cat "$folder/reports/{}" < "$folder/roots"; } | LC_ALL=C awk '
+    $1 == "root" { files++; if (files == 1) root = $2 }
+    $1 == "nodes" { nodes += $2 }
+    $1 == "halting" { halting += $2 }
+    $1 == "never" { never += $2 }
+    $1 == "holdouts" { holdouts += $2 }
+    $1 == "open" { if (files == 1) nodes -= $2; else open += $2 }
+    $1 == "best" && $2 != "none" { steps = $2 + 0; if (steps > best) best = steps }
+    $1 == "ones" && $2 != "none" { score = $2 + 0; if (score > ones) ones = score }
+    $1 == "best" { steps = $2 }
+    $1 == "ones" { score = $2 }
+    $1 == "champion" { champions[steps] = champions[steps] $0 "\n" }
+    $1 == "ones_champion" { scored[score] = scored[score] $0 "\n" }
+    $1 == "holdout" { left = left $0 "\n" }
+    function sorted(lines) { if (lines != "") { printf "%s", lines | "sort"; close("sort") } }
+    END {
+        status = open > 0 ? "working" : holdouts > 0 ? "holdouts" : "complete"
+        printf "root %s\nstatus %s\nnodes %d\nhalting %d\nnever %d\n", root, status, nodes, halting, never
+        printf "holdouts %d\nopen %d\nbest %s\n", holdouts, open, best ? best : "none"
+        fflush()
+        if (best) sorted(champions[best])
+        printf "ones %s\n", ones ? ones : "none"
+        fflush()
+        if (ones) sorted(scored[ones])
+        sorted(left)
+        exit status != "complete"
+    }'

@@ -1,5 +1,5 @@
 -- A ledger that is loaded and summed up as it is read.
-use Rattle.std.proofs.Common.{◌≡◌, ◌⊎◌, inl, inr, ℕ, ◌+◌, ◌-◌, ◌≤◌, List, [], ◌++◌, length, Option, Result, Ok, Err, IfOk, refl, sym, ap, ◌∙◌, subst, arith, append_assoc, append-nil, length-append}
+use Rattle.std.proofs.Common.{◌≡◌, ◌⊎◌, inl, inr, ℕ, ◌+◌, ◌-◌, List, [], ◌++◌, length, Option, Result, Ok, Err, IfOk, refl, sym, subst, arith, append_assoc, append-nil, length-append}
 use Rattle.std.proofs.KnownBytes.{Consumes-nil, Consumes-trans}
 use Rattle.std.specs.Io.KnownBytes.{Consumes, IsAtEnd}
 use Rattle.machine_text.specs.Packed.{Packed, entry_of}
@@ -9,12 +9,12 @@ use Rattle.sha2.specs.Sha256.{sha256}
 use Rattle.sha2.specs.declared.Sha256.{Sha256}
 use Rattle.ledger.specs.Contents.{Contents}
 use Rattle.ledger.specs.LedgerText.{HasHeader, LoadGives, ReadsIn}
-use Rattle.ledger.specs.Loading.{Loading, IsFed, StandsAfter}
+use Rattle.ledger.specs.Loading.{Loading, StandsAfter}
 use Rattle.ledger.specs.declared.left.Left.{Left}
 use Rattle.ledger.specs.declared.faults.LoadFault.{LoadFault}
 use Rattle.ledger.proofs.StageLaws.{fed_more}
 use Rattle.cmd_ledgers.specs.Faults.{ended_by_load}
-use Rattle.cmd_ledgers.specs.Reading.{AreFirstBytes, BeginsWithRoot, IsLoadedFrom}
+use Rattle.cmd_ledgers.specs.Reading.{AreFirstBytes, BeginsWithRoot}
 use Rattle.cmd_ledgers.proofs.FirstBytes.{all_first, finish_ends, first_behind}
 use Rattle.cmd_ledgers.proofs.Joining.{load_taken}
 use Rattle.cmd_ledgers.proofs.ReadLaws.{behind_loads}

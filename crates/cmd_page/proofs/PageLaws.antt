@@ -1,6 +1,5 @@
 -- The parts of a page, put together.
-use Rattle.std.proofs.Common.{◌≡◌, ℕ, zero, suc, true, false, ltb, ◌&&◌, ◌∷◌, ◌+◌, ◌-◌, ◌*◌, ◌^◌, ◌<◌, ◌≤◌, List, [], ◌++◌, length, decimal, flat_map, cond, Option, None, Some, Result, Ok, Err, OnOk, refl, ap, subst, ◌∙◌, arith}
-use Rattle.std.specs.Result.{is_ok}
+use Rattle.std.proofs.Common.{◌≡◌, ℕ, zero, suc, true, false, ltb, ◌&&◌, ◌∷◌, ◌+◌, ◌*◌, ◌^◌, ◌<◌, ◌≤◌, List, [], ◌++◌, length, decimal, flat_map, Option, None, Some, refl, ap, ◌∙◌, arith}
 use Rattle.std.specs.List.{concat, range_with_len, list_all}
 use Rattle.std.proofs.lemmas.Bool.Decides.{nat_tests}
 use Rattle.std.specs.Vec.Iter.{into_iter_items}
@@ -8,10 +7,8 @@ use Rattle.machine_text.specs.Limits.{state_limit}
 use Rattle.machine_text.specs.Packed.{Packed}
 use Rattle.cert.specs.Claim.{Recorded}
 use Rattle.ledger.specs.declared.left.Left.{Left}
-use Rattle.cmd_ledgers.specs.Passing.{Passes}
-use Rattle.cmd_ledgers.specs.declared.told.Told.{Told}
 use Rattle.cmd_options.specs.Kinds.{kind_letters}
-use Rattle.cmd_page.specs.Census.{Numbers, halting_from, of_kind, with_entries}
+use Rattle.cmd_page.specs.Census.{halting_from, of_kind, with_entries}
 use Rattle.cmd_page.specs.Heading.{Headed, origin_html}
 use Rattle.cmd_page.specs.Row.{count_html}
 use Rattle.cmd_page.specs.Page.{IsPage, IsPageWith, kind_html, kinds_html, entries_html, census_html, opening_html, parts_html, record_count, where_some, summary_html, champions_html, head_html, holdouts_html, ending_html}
@@ -81,7 +78,7 @@ counted_page heading root rs left text census counted limit page =
     let steps_is = same_steps told.tally.best found.steps (halting_from rs) counted.steps in
     let champions = champions_html told.tally.best page.figures (into_iter_items told.ones_champions) in
     let text_with : List ℕ → List ℕ → List ℕ = λ counts steps. concat (opening_html heading.title ∷ parts_html told.tally ∷ summary_html told.root told.status told.tally left ∷ origin_html heading ∷ ROWS_END.now
-        ∷ where_some total counts ∷ steps ∷ champions ∷ where_some told.tally.holdouts HOLDOUTS.now ∷ []) ++ holdouts_html (into_iter_items told.holdouts) ++ ending_html told.tally.holdouts in
+    ∷ where_some total counts ∷ steps ∷ champions ∷ where_some told.tally.holdouts HOLDOUTS.now ∷ []) ++ holdouts_html (into_iter_items told.holdouts) ++ ending_html told.tally.holdouts in
     record {
       told = told;
       is_told = page.is_told;

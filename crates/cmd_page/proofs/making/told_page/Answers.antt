@@ -1,6 +1,5 @@
 use Rattle.std.proofs.Common.{◌≡◌, ℕ, List, ◌++◌, ◌∙◌, ap, Result, Ok}
 use Rattle.std.specs.Vec.Iter.{into_iter_items}
-use Rattle.std.specs.declared.alloc.AllocError.{AllocError}
 use Rattle.cmd_page.specs.Counting.{census_numbers}
 use Rattle.cmd_page.specs.Heading.{Headed, origin_html}
 use Rattle.cmd_page.specs.Page.{census_html, champions_html, ending_html, head_html, holdouts_html, opening_html, parts_html, record_count, summary_html, where_some}
@@ -12,7 +11,7 @@ use Rattle.cmd_page.proofs.making.told_page.Goals as goal
 pub returns : goal.returns
 unfolding head_html
 returns c =
-    let done : Result (Unit {0}) AllocError = Ok tt in
+    let done : Result (Unit {0}) (Unit {0}) = Ok tt in
     let told = c.args.told in
     let tally = told.tally in
     let champions = c.in_ok-append_champions.ensures in
@@ -23,12 +22,12 @@ returns c =
     let before = c.extend_from_slice.new.self.items in
     let counted = c.in_ok-append_census.ensures ∙ ap (λ (n : ℕ). before ++ counts c.states.result n) c.record_count.ensures ∙ ap (λ (n : ℕ). before ++ counts n (record_count tally)) c.states.ensures.states in
     let head : c.append_where_some.new.out.items ≡ c.in_ok-head.head.items ++ head_html heading numbers c.args.left.now told champions.0 =
-        then done _ _ (opening_html heading.title) _ _ opened (then done _ _ (parts_html tally) _ _ c.in_ok-append_parts.ensures
-        (then done _ _ (summary_html told.root told.status tally c.args.left.now) _ _ c.in_ok-append_summary.ensures
-        (then done _ _ (origin_html heading) _ _ c.in_ok-append_origin.ensures (then done _ _ ROWS_END.now _ _ c.in_ok-extend_from_slice.ensures.items
-        (then done _ _ (counts told.root.states (record_count tally)) _ _ counted (then done _ _ (steps_html tally.best numbers.steps) _ _ c.in_ok-append_steps.ensures
-        (then done _ _ (champions_html tally.best champions.0 (into_iter_items told.ones_champions)) _ _ champions.2
-        (ends done _ (where_some tally.holdouts HOLDOUTS.now) _ c.in_ok-append_where_some.ensures)))))))) in (
+    then done _ _ (opening_html heading.title) _ _ opened (then done _ _ (parts_html tally) _ _ c.in_ok-append_parts.ensures
+    (then done _ _ (summary_html told.root told.status tally c.args.left.now) _ _ c.in_ok-append_summary.ensures
+    (then done _ _ (origin_html heading) _ _ c.in_ok-append_origin.ensures (then done _ _ ROWS_END.now _ _ c.in_ok-extend_from_slice.ensures.items
+    (then done _ _ (counts told.root.states (record_count tally)) _ _ counted (then done _ _ (steps_html tally.best numbers.steps) _ _ c.in_ok-append_steps.ensures
+    (then done _ _ (champions_html tally.best champions.0 (into_iter_items told.ones_champions)) _ _ champions.2
+    (ends done _ (where_some tally.holdouts HOLDOUTS.now) _ c.in_ok-append_where_some.ensures)))))))) in (
       c.states.ensures.table.limit,
       λ root rs tells. record {
         told = told;

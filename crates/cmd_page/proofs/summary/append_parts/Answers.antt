@@ -1,4 +1,4 @@
-use Rattle.std.proofs.Common.{ℕ, List, ◌++◌, ap, ◌∙◌}
+use Rattle.std.proofs.Common.{ℕ, ◌++◌, ap, ◌∙◌}
 use Rattle.cmd_page.specs.Page.{parts_html, record_count, where_found, where_some}
 use Rattle.cmd_page.specs.declared.style.TheConstants.{HALTING_LINKS, HOLDOUTS_LINK, PARTS, RECORD_LINKS, STATUS}
 use Rattle.cmd_page.proofs.Appending.{ended, ends, then}

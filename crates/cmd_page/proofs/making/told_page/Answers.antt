@@ -1,6 +1,5 @@
 use Rattle.std.proofs.Common.{◌≡◌, ℕ, List, ◌++◌, ◌∙◌, ap, Result, Ok}
 use Rattle.std.specs.Vec.Iter.{into_iter_items}
-use Rattle.std.specs.declared.alloc.AllocError.{AllocError as NoMemory}
 use Rattle.cmd_page.specs.Counting.{census_numbers}
 use Rattle.cmd_page.specs.Heading.{Headed, origin_html}
 use Rattle.cmd_page.specs.Page.{census_html, champions_html, ending_html, head_html, holdouts_html, opening_html, parts_html, record_count, summary_html, where_some}
@@ -12,7 +11,7 @@ use Rattle.cmd_page.proofs.making.told_page.Goals as goal
 pub returns : goal.returns
 unfolding head_html
 returns c =
-    let done : Result (Unit {0}) NoMemory = Ok tt in
+    let done : Result (Unit {0}) (Unit {0}) = Ok tt in
     let told = c.args.told in
     let tally = told.tally in
     let champions = c.in_ok-append_champions.ensures in

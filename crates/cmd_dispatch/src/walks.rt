@@ -5,9 +5,9 @@ use crate::call::Call;
 use crate::late::Late;
 use cert::Decider;
 use cmd_json::Form;
-use cmd_options::{Durability, Ended, LedgerFile, Outcome, Saving, Walking};
+use cmd_options::{Durability, Ended, LedgerFile, Outcome, Saving, Walking, ended_by};
 use cmd_walk::cmd_walk;
-use files::{Disk, ledger_at, lock_ledger};
+use files::{Disk, Files, ledger_at, lock_ledger};
 use find_search::{SavingDecider, decider_for};
 use machine_text::Table;
 use std::alloc::Global;
@@ -46,12 +46,8 @@ pub(crate) fn walk<S: Disk + Clock, R, W: Write, E: Write>(
         )?;
         return Ok(late.say(outcome, faults));
     };
-    let _lock = lock_ledger(&files, path)?;
-    let file = LedgerFile {
-        path,
-        durability: Durability::System,
-    };
-    let mut decider = SavingDecider::new(finders, dear, ledger_at(&mut files, &file)?);
+    let (_lock, saved) = opened(&mut files, path)?;
+    let mut decider = SavingDecider::new(finders, dear, saved);
     let (outcome, late) = walk_by(
         alloc,
         walking,
@@ -65,6 +61,20 @@ pub(crate) fn walk<S: Disk + Clock, R, W: Write, E: Write>(
         return Err(Ended::Ledger);
     }
     Ok(late.say(outcome, faults))
+}
+
+// The file to which records are saved, locked. A walk is long: that the file can't be written is said before it begins.
+fn opened<H: Files>(files: &mut H, path: &str) -> Result<(H::Lock, H::Ledger), Ended> {
+    if let Err(fault) = files.create(path) {
+        return Err(ended_by(&fault, Ended::Ledger));
+    }
+    let lock = lock_ledger(files, path)?;
+    let file = LedgerFile {
+        path,
+        durability: Durability::System,
+    };
+    let ledger = ledger_at(files, &file)?;
+    Ok((lock, ledger))
 }
 
 // Walks by a decider. How it ended, and what is to be said then.

@@ -132,8 +132,8 @@ terminal on one line that is written over, elsewhere with --progress, a line a s
 
 Exit status: 0 the report says complete; 1 it doesn't, or the root is refused (`refused 405`: it isn't a table of N
 states that names its states in order); 2 a wrong command line; 3 out of memory (`refused memory`); 4 a stream failed
-(`refused 603`), the file of records couldn't be written (`refused 604`), known records couldn't be read (`refused 605`),
-or another process writes the file of records (`refused 606`).";
+(`refused 603`), the file of records couldn't be written (`refused 604`), known records couldn't be read
+(`refused 605`), or another process writes the file of records (`refused 606`).";
 
 pub(crate) const LOOP: &str =
     "As `bb run`, but that the frames of each worker go over a connection of its own on 127.0.0.1, at most 4,096

@@ -1,0 +1,4 @@
+pub mod Spelling
+pub mod ListLaws
+pub mod KindLaws
+pub mod OwnedLaws

@@ -1,0 +1,10 @@
+use Rattle.std.proofs.Common.{◌≡◌, length}
+use Rattle.std.specs.Prelude.{is_some}
+use Rattle.kind_rules.specs.Texts.{moves_from}
+use Rattle.kind_rules.proofs.move_text.are_moves.Given as goal
+
+abbrev pub decreases-parts : goal.decreases-parts
+decreases-parts l = length l.parts
+
+abbrev pub invariant-parts : goal.invariant-parts
+invariant-parts l = is_some (moves_from l.parts) ≡ is_some (moves_from l.initial.parts)

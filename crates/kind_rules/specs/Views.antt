@@ -1,0 +1,57 @@
+-- What the structs of the code say.
+use Rattle.std.specs.Prelude.{map, option_map}
+use Rattle.machine_text.specs.Packed.{entry_of}
+use Rattle.kind_rules.specs.declared.form.Form.{Form as FormIn}
+use Rattle.kind_rules.specs.declared.form.Rule.{Rule}
+use Rattle.kind_rules.specs.declared.queues.Queues.{Queues}
+use Rattle.kind_rules.specs.declared.sides.BothSides.{BothSides}
+use Rattle.kind_rules.specs.declared.unpacked.ProvedRule.{ProvedRule}
+use Rattle.kind_rules.specs.declared.unpacked.Unpacked.{Unpacked}
+use Rattle.kind_rules.specs.declared.setting.Setting.{Setting as SettingIn}
+use Rattle.kind_rules.specs.declared.number_text.Factor.{Factor}
+use Rattle.kind_rules.specs.declared.rule_text.OpenEnds.{OpenEnds}
+use Rattle.law_induction.specs.Forms.{Form, form_of, RuleForm}
+use Rattle.law_induction.specs.Equations.{Sides, sides_of}
+use Rattle.law_induction.specs.Scripts.{Setting}
+use Rattle.law_induction.specs.Rules.{Proved, Certificate, forms_of}
+use Rattle.kind_rules.specs.Texts.{Factored, Ends}
+
+abbrev pub form_in : FormIn → Form
+form_in f = form_of f.left.items f.state f.heading f.right.items
+
+abbrev pub queues_in : Queues → Form
+queues_in f = form_of f.left.items f.state f.heading f.right.items
+
+abbrev pub rule_in : Rule → RuleForm
+rule_in r = record { open_left = r.open_left; open_right = r.open_right; from = form_in r.from; to = form_in r.to }
+
+abbrev pub sides_in : BothSides → Sides
+sides_in s = sides_of s.before.items s.after.items
+
+abbrev pub proved_in : ProvedRule → Proved
+proved_in p = record { rule = rule_in p.rule; base = option_map (λ v. v.items) p.base; script = p.script.items }
+
+abbrev pub certificate_of : Unpacked → Certificate
+certificate_of c = record {
+  rules = map proved_in c.rules.items;
+  family = form_in c.family;
+  first = c.first;
+  begin = c.begin.items;
+  next = c.next;
+  loop = c.again.items;
+}
+
+abbrev pub setting_in : SettingIn → Setting
+setting_in s = record {
+  machine = entry_of s.table.now;
+  rules = forms_of (map proved_in s.rules.now);
+  again = option_map (λ r. rule_in r.now) s.again;
+  open_left = s.open_left;
+  open_right = s.open_right;
+}
+
+abbrev pub factored_of : Factor → Factored
+factored_of f = record { before = f.before.now; factor = f.factor }
+
+abbrev pub ends_of : OpenEnds → Ends
+ends_of e = record { open_left = e.left; open_right = e.right }

@@ -1,0 +1,121 @@
+// Rules with induction, and the evidence that they keep a table from halting.
+ghost use Rattle.kind_rules.specs.RuleTexts.{AreRuleTexts};
+ghost use Rattle.kind_rules.specs.TextsGiven.{texts_given};
+
+use crate::stop::Stop;
+use crate::texts_given::TextsGiven;
+use kind_evidence::{Evidence, NoMemory, Refused, Verdict};
+use machine_text::Table;
+use std::alloc::Global;
+use text::{FieldFault, Parts, append_field, end_of, next_field};
+
+/// The claim that a table's run comes to the forms of a family again and again, by which it never halts: rules between
+/// forms of tape, with words that are repeated as often as variables say, each proved by a script of steps, equations and
+/// earlier rules, or by induction; the family with its exponents at first, the script that leads there from the blank
+/// tape, the exponents that come next, and the script that leads to them. The texts are borrowed, and read where they
+/// are checked. The claim is made for tables of so many states, and for no others.
+#[derive(Clone, Copy, Debug, PartialEq, Eq)]
+pub struct Rules<'a> {
+    pub(crate) texts: TextsGiven<'a>,
+    ghost are: { AreRuleTexts (texts_given texts) },
+}
+
+impl<'a> Rules<'a> {
+    ghost use Rattle.std.specs.Prelude.{◌≡◌, ◌++◌, ◌≤◌, OnOk, length, take};
+    ghost use Rattle.machine_text.specs.Limits.{state_limit};
+    ghost use Rattle.text.specs.Fields.{made_of, spaced};
+    ghost use Rattle.kind_rules.specs.Fields.{rules_by, rule_texts_by, rule_fields};
+    ghost use Rattle.kind_rules.specs.RuleTexts.{AreRulesOf};
+    ghost use Rattle.kind_rules.specs.Claims.{rule_texts_of};
+
+    // The claim that texts make. It is `TooLong` where they are over `MAX_RULE_BYTES`, `BadList` where they are no such
+    // texts.
+    fn of(texts: TextsGiven<'a>) -> Result<Rules<'a>, FieldFault>
+        requires { (1 ≤ texts.states) × (texts.states ≤ state_limit) }
+        ensures { made_of rule_texts_of result ≡ rules_by (texts_given texts.entry) }
+    {
+        if !texts.are_short() {
+            return Err(FieldFault::TooLong);
+        }
+        if !texts.are_read() {
+            return Err(FieldFault::BadList);
+        }
+        Ok(Rules { texts })
+    }
+
+    /// The claim that the fields of a record make, for a table of so many states: `rules family first begin next loop`.
+    /// Takes no memory.
+    pub fn read(states: u8, mut fields: Parts<'a>) -> Result<Rules<'a>, FieldFault>
+        requires { (1 ≤ states) × (states ≤ state_limit) }
+        ensures { made_of rule_texts_of result ≡ rule_texts_by states fields.entry }
+    {
+        let rules = next_field(&mut fields)?;
+        let family = next_field(&mut fields)?;
+        let first = next_field(&mut fields)?;
+        let begin = next_field(&mut fields)?;
+        let next = next_field(&mut fields)?;
+        let again = next_field(&mut fields)?;
+        end_of(fields)?;
+        Rules::of(TextsGiven {
+            states,
+            rules,
+            family,
+            first,
+            begin,
+            next,
+            again,
+        })
+    }
+
+    /// Appends the fields of a record, each behind a space: they read back as the same texts (`rules_are_a_kind`). Where
+    /// memory is refused, a beginning of them.
+    pub fn append_fields(&self, out: &mut Vec<u8>) -> Result<(), NoMemory>
+        ensures ok { OnOk result (out.new.items ≡ out.old.items ++ spaced (rule_fields (rule_texts_of self.now))) }
+        ensures writable { OnOk result (AreRuleTexts (rule_texts_of self.now)) }
+        ensures kept { take (length out.old.items) out.new.items ≡ out.old.items }
+    {
+        append_field(self.texts.rules, out)?;
+        append_field(self.texts.family, out)?;
+        append_field(self.texts.first, out)?;
+        append_field(self.texts.begin, out)?;
+        append_field(self.texts.next, out)?;
+        append_field(self.texts.again, out)
+    }
+
+    // Whether the rules are a certificate of a table. Reads the texts into memory.
+    fn judged(&self, alloc: Global, t: &Table) -> Result<(), Stop>
+        ensures stands { OnOk result (AreRulesOf (rule_texts_of self.now) t.now) }
+        ensures fails { result ≡ Err Stop.Fails → AreRulesOf (rule_texts_of self.now) t.now → ⊥ }
+    {
+        if t.states() != self.texts.states {
+            return Err(Stop::Fails);
+        }
+        match self.texts.read(alloc)? {
+            Some(unpacked) => unpacked.judge(alloc, t),
+            // Never: the texts were tested before.
+            None => Err(Stop::Fails),
+        }
+    }
+}
+
+impl Evidence for Rules<'_> {
+    ghost use Rattle.kind_evidence.specs.declared.verdicts.Verdict.TheVariants.{Never};
+    ghost use Rattle.kind_rules.specs.Kind.{rules_kind};
+    ghost use Rattle.kind_rules.specs.Claims.{rule_texts_of};
+
+    ghost meaning = { λ e. rules_kind.meaning (rule_texts_of e) };
+
+    ghost shows = { λ e p. Never };
+
+    fn check(&self, alloc: Global, t: &Table) -> Result<Verdict, Refused> {
+        // The proof needs that the texts are within their limits.
+        let _ = &self.texts;
+        match self.judged(alloc, t) {
+            Ok(()) => Ok(Verdict::Never),
+            Err(Stop::Fails) => Err(Refused::Fails),
+            Err(Stop::NoMemory) => Err(Refused::NoMemory),
+        }
+    }
+
+    ghost law = { λ e. rules_kind.law (rule_texts_of e) };
+}

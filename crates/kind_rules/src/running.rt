@@ -1,0 +1,186 @@
+// Scripts, move by move.
+ghost use Rattle.std.specs.Prelude.{◌≡◌, ◌&&◌, nat_le, length, map, option_map};
+ghost use Rattle.law_induction.specs.Scripts.{rule_at, done, done_within, all_done};
+ghost use Rattle.law_induction.specs.Words.{block_limit};
+ghost use Rattle.law_induction.specs.Rules.{forms_of};
+ghost use Rattle.kind_rules.specs.Answers.{Answers};
+ghost use Rattle.kind_rules.specs.Views.{form_in, rule_in, proved_in, setting_in};
+
+use crate::form::{Form, Rule};
+use crate::limits::{MAX_BLOCKS, MAX_STEPS};
+use crate::setting::Setting;
+use crate::sides::{is_at_end, sides};
+use crate::stop::Stop;
+use crate::unpacked::ProvedRule;
+use law_induction::{Equation, Four, Move, Times};
+use machine_text::Dir;
+use std::alloc::Global;
+
+// A rule by its number.
+fn earlier<'r>(rules: &'r [ProvedRule], k: u32) -> Option<&'r Rule>
+    ensures { rule_at (forms_of (map proved_in rules.now)) k ≡ option_map (λ r. rule_in r.now) result }
+{
+    if k as usize >= rules.len() {
+        return None;
+    }
+    Some(&rules[k as usize].rule)
+}
+
+impl Form {
+    ghost use Rattle.law_induction.specs.declared.moves.Move.TheVariants.{Steps, Use, Again, Forth, Back};
+
+    // Steps, where there are no more than may be.
+    #[tactic(auto, unfolding(law_induction::specs::Scripts::done, law_induction::specs::Words::step_limit))]
+    fn few_steps(&mut self, alloc: Global, s: &Setting<'_, '_, '_>, n: u32) -> Result<(), Stop>
+        ensures { Answers (λ _. form_in self.new) (done (setting_in s.now) (Steps n) (form_in self.old)) result }
+    {
+        if n > MAX_STEPS {
+            return Err(Stop::Fails);
+        }
+        self.steps(alloc, s.table, n)
+    }
+
+    // An earlier rule.
+    #[tactic(auto, unfolding(law_induction::specs::Scripts::done))]
+    fn use_earlier(
+        &mut self,
+        alloc: Global,
+        s: &Setting<'_, '_, '_>,
+        k: u32,
+        by: &Four,
+    ) -> Result<(), Stop>
+        ensures { Answers (λ _. form_in self.new) (done (setting_in s.now) (Use k by.now) (form_in self.old)) result }
+    {
+        let Some(rule) = earlier(s.rules, k) else {
+            return Err(Stop::Fails);
+        };
+        self.use_rule(alloc, rule, by, s.open_left, s.open_right)
+    }
+
+    // The rule that is being proved.
+    #[tactic(auto, unfolding(law_induction::specs::Scripts::done))]
+    fn use_again(
+        &mut self,
+        alloc: Global,
+        s: &Setting<'_, '_, '_>,
+        b: Times,
+        c: Times,
+        d: Times,
+    ) -> Result<(), Stop>
+        ensures { Answers (λ _. form_in self.new) (done (setting_in s.now) (Again b c d) (form_in self.old)) result }
+    {
+        let Some(rule) = s.again else {
+            return Err(Stop::Fails);
+        };
+        let a = Times {
+            ones: 0,
+            a: 1,
+            b: 0,
+            c: 0,
+            d: 0,
+        };
+        self.use_rule(alloc, rule, &Four { a, b, c, d }, s.open_left, s.open_right)
+    }
+
+    // An equation, from its left side to its right one.
+    #[tactic(auto, unfolding(law_induction::specs::Scripts::done))]
+    fn forth(
+        &mut self,
+        alloc: Global,
+        s: &Setting<'_, '_, '_>,
+        side: Dir,
+        place: u32,
+        e: Equation,
+    ) -> Result<(), Stop>
+        ensures { Answers (λ _. form_in self.new) (done (setting_in s.now) (Forth side place e) (form_in self.old)) result }
+    {
+        let both = sides(alloc, e)?;
+        self.rewrite(
+            alloc,
+            s,
+            side,
+            place,
+            is_at_end(e),
+            &both.before,
+            &both.after,
+        )
+    }
+
+    // And from its right side to its left one.
+    #[tactic(auto, unfolding(law_induction::specs::Scripts::done))]
+    fn back(
+        &mut self,
+        alloc: Global,
+        s: &Setting<'_, '_, '_>,
+        side: Dir,
+        place: u32,
+        e: Equation,
+    ) -> Result<(), Stop>
+        ensures { Answers (λ _. form_in self.new) (done (setting_in s.now) (Back side place e) (form_in self.old)) result }
+    {
+        let both = sides(alloc, e)?;
+        self.rewrite(
+            alloc,
+            s,
+            side,
+            place,
+            is_at_end(e),
+            &both.after,
+            &both.before,
+        )
+    }
+
+    // One move.
+    #[tactic(auto, unfolding(law_induction::specs::Scripts::done))]
+    fn go(&mut self, alloc: Global, s: &Setting<'_, '_, '_>, x: Move) -> Result<(), Stop>
+        ensures { Answers (λ _. form_in self.new) (done (setting_in s.now) x (form_in self.old)) result }
+    {
+        match x {
+            Move::Steps(n) => self.few_steps(alloc, s, n),
+            Move::Turn => self.turn(alloc),
+            Move::Use(k, by) => self.use_earlier(alloc, s, k, &by),
+            Move::Again(b, c, d) => self.use_again(alloc, s, b, c, d),
+            Move::Forth(side, place, e) => self.forth(alloc, s, side, place, e),
+            Move::Back(side, place, e) => self.back(alloc, s, side, place, e),
+        }
+    }
+
+    // Whether it isn't too long.
+    #[tactic(auto, unfolding(law_induction::specs::Words::block_limit))]
+    fn is_small(&self) -> bool
+        ensures { result ≡ (nat_le (length self.now.left.items) block_limit && nat_le (length self.now.right.items) block_limit) }
+    {
+        self.left.len() <= MAX_BLOCKS && self.right.len() <= MAX_BLOCKS
+    }
+
+    // One move, from a form that isn't too long.
+    #[tactic(auto, unfolding(law_induction::specs::Scripts::done_within, law_induction::specs::Scripts::small))]
+    fn go_within(&mut self, alloc: Global, s: &Setting<'_, '_, '_>, x: Move) -> Result<(), Stop>
+        ensures { Answers (λ _. form_in self.new) (done_within (setting_in s.now) x (form_in self.old)) result }
+    {
+        if !self.is_small() {
+            return Err(Stop::Fails);
+        }
+        self.go(alloc, s, x)
+    }
+
+    // A whole script.
+    #[tactic(auto, unfolding(law_induction::specs::Scripts::all_done, law_induction::specs::Scripts::small))]
+    pub(crate) fn go_all(
+        &mut self,
+        alloc: Global,
+        s: &Setting<'_, '_, '_>,
+        moves: &[Move],
+    ) -> Result<(), Stop>
+        ensures { Answers (λ _. form_in self.new) (all_done (setting_in s.now) moves.now (form_in self.old)) result }
+    {
+        for x in moves {
+            self.go_within(alloc, s, *x)?;
+        }
+        if self.is_small() {
+            Ok(())
+        } else {
+            Err(Stop::Fails)
+        }
+    }
+}

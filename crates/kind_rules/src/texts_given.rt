@@ -1,0 +1,155 @@
+// The texts of rules with induction, as they are given.
+ghost use Rattle.std.specs.Prelude.{◌≡◌};
+ghost use Rattle.kind_rules.specs.RuleTexts.{are_high};
+
+use crate::form_text::{is_form, read_form};
+use crate::limits::MAX_RULE_BYTES;
+use crate::move_text::{is_script, read_script};
+use crate::number_text::four_from;
+use crate::rule_text::{are_rules, read_rules};
+use crate::unpacked::Unpacked;
+use std::alloc::{AllocError as NoMemory, Global};
+use text::Parts;
+
+// How many states the tables have for which they are made; the texts of the rules, of the family, of its exponents at
+// first, of the script that leads there, of the exponents that come next, and of the script that leads to those.
+#[derive(Clone, Copy, Debug, PartialEq, Eq)]
+pub(crate) struct TextsGiven<'a> {
+    pub states: u8,
+    pub rules: &'a [u8],
+    pub family: &'a [u8],
+    pub first: &'a [u8],
+    pub begin: &'a [u8],
+    pub next: &'a [u8],
+    pub again: &'a [u8],
+}
+
+// Whether no byte is below the comma.
+fn are_high(text: &[u8]) -> bool
+    ensures { result ≡ are_high text.now }
+{
+    for b in text {
+        if *b < b',' {
+            return false;
+        }
+    }
+    true
+}
+
+impl TextsGiven<'_> {
+    ghost use Rattle.std.specs.Prelude.{◌≡◌, ◌≤◌, ◌↔◌, IfOk, IsTrue, is_some, nat_le, option_map};
+    ghost use Rattle.kind_rules.specs.Limits.{rules_byte_limit};
+    ghost use Rattle.kind_rules.specs.RuleTexts.{all_high, bytes_of, certificate_in, given_by};
+    ghost use Rattle.kind_rules.specs.Views.{certificate_of};
+    ghost use Rattle.kind_rules.specs.TextsGiven.{texts_given};
+
+    // How many of the bytes that the texts may have together are left; none where they are longer.
+    fn room_left(&self) -> Option<usize>
+        ensures { is_some result ≡ nat_le (bytes_of (texts_given self.now)) rules_byte_limit }
+    {
+        let left = (MAX_RULE_BYTES - 5).checked_sub(self.rules.len())?;
+        let left = left.checked_sub(self.family.len())?;
+        let left = left.checked_sub(self.first.len())?;
+        let left = left.checked_sub(self.begin.len())?;
+        let left = left.checked_sub(self.next.len())?;
+        left.checked_sub(self.again.len())
+    }
+
+    // Whether the texts together are within `MAX_RULE_BYTES`.
+    pub fn are_short(&self) -> bool
+        ensures { IsTrue result ↔ (bytes_of (texts_given self.now) ≤ rules_byte_limit) }
+    {
+        self.room_left().is_some()
+    }
+
+    // Whether each text is a field.
+    #[tactic(auto, unfolding(crate::specs::RuleTexts::all_high))]
+    fn are_fields(&self) -> bool
+        ensures { result ≡ all_high (texts_given self.now) }
+    {
+        are_high(self.rules)
+            && are_high(self.family)
+            && are_high(self.first)
+            && are_high(self.begin)
+            && are_high(self.next)
+            && are_high(self.again)
+    }
+
+    // Whether each text is of its grammar.
+    #[tactic(auto, unfolding(crate::specs::RuleTexts::certificate_in))]
+    fn give(&self) -> bool
+        ensures { result ≡ is_some (certificate_in (texts_given self.now)) }
+    {
+        if !are_rules(self.states, self.rules) {
+            return false;
+        }
+        if !is_form(self.states, self.family) {
+            return false;
+        }
+        if four_from(Parts::of(b'.', self.first)).is_none() {
+            return false;
+        }
+        if !is_script(self.begin) {
+            return false;
+        }
+        if four_from(Parts::of(b'.', self.next)).is_none() {
+            return false;
+        }
+        is_script(self.again)
+    }
+
+    // Whether the texts give a certificate. Takes no memory.
+    #[tactic(auto, unfolding(crate::specs::RuleTexts::given_by))]
+    pub fn are_read(&self) -> bool
+        ensures { result ≡ is_some (given_by (texts_given self.now)) }
+    {
+        if !self.are_fields() {
+            return false;
+        }
+        self.give()
+    }
+
+    // The certificate that the texts give; none where they give none.
+    #[tactic(auto, unfolding(crate::specs::RuleTexts::certificate_in))]
+    fn unpacked(&self, alloc: Global) -> Result<Option<Unpacked>, NoMemory>
+        ensures { IfOk result (λ read. option_map certificate_of read ≡ certificate_in (texts_given self.now)) }
+    {
+        let Some(rules) = read_rules(alloc, self.states, self.rules)? else {
+            return Ok(None);
+        };
+        let Some(family) = read_form(alloc, self.states, self.family)? else {
+            return Ok(None);
+        };
+        let Some(first) = four_from(Parts::of(b'.', self.first)) else {
+            return Ok(None);
+        };
+        let Some(begin) = read_script(alloc, self.begin)? else {
+            return Ok(None);
+        };
+        let Some(next) = four_from(Parts::of(b'.', self.next)) else {
+            return Ok(None);
+        };
+        let Some(again) = read_script(alloc, self.again)? else {
+            return Ok(None);
+        };
+        Ok(Some(Unpacked {
+            rules,
+            family,
+            first,
+            begin,
+            next,
+            again,
+        }))
+    }
+
+    // The same, where each text is a field.
+    #[tactic(auto, unfolding(crate::specs::RuleTexts::given_by))]
+    pub fn read(&self, alloc: Global) -> Result<Option<Unpacked>, NoMemory>
+        ensures { IfOk result (λ read. option_map certificate_of read ≡ given_by (texts_given self.now)) }
+    {
+        if !self.are_fields() {
+            return Ok(None);
+        }
+        self.unpacked(alloc)
+    }
+}

@@ -1,0 +1,97 @@
+-- Rules with induction, and when they keep a machine from halting.
+use Rattle.std.specs.Prelude.{ℕ, ◌+◌, nat_le, ◌==◌, ◌&&◌, Bool, true, false, List, [], ◌∷◌, ◌++◌, Option, Some, None}
+use Rattle.machine_text.specs.declared.transition.Dir.TheVariants.{R}
+use Rattle.law_turing.specs.Machine.{Machine}
+use Rattle.law_induction.specs.declared.block.Times.{Times}
+use Rattle.law_induction.specs.declared.block.Four.{Four}
+use Rattle.law_induction.specs.declared.moves.Move.{Move}
+use Rattle.law_induction.specs.Words.{all_steps_limit, times_of, never_once, blocks_eq}
+use Rattle.law_induction.specs.Forms.{Form, form_of, RuleForm}
+use Rattle.law_induction.specs.Equations.{◌>>=◌, instance_of}
+use Rattle.law_induction.specs.Scripts.{Setting, same_side, all_done, has_step, steps_in}
+
+-- a rule with its proof: one script; or by induction on the variable a a script for 0, and one for a + 1
+pub record Proved : Type 0 where
+  pub rule : RuleForm
+  pub base : Option (List Move)
+  pub script : List Move
+
+-- the rules, the form that the run comes to again and again, its numbers at first, and how it comes there; and what
+-- stands for its variables when it comes there next
+pub record Certificate : Type 0 where
+  pub rules : List Proved
+  pub family : Form
+  pub first : Four
+  pub begin : List Move
+  pub next : Four
+  pub loop : List Move
+
+unfoldable pub form_by : Four → Form → Option Form
+form_by by f = instance_of by f.left >>= λ left. instance_of by f.right >>= λ right.
+    Some (form_of left f.state f.heading right)
+
+abbrev pub form_eq : Form → Form → Bool
+form_eq f g = (f.state == g.state) && (same_side f.heading g.heading && (blocks_eq f.left g.left && blocks_eq f.right g.right))
+
+-- whether a script leads from one form to another
+abbrev pub arrives : Option Form → Form → Bool
+arrives None g = false
+arrives (Some f) g = form_eq f g
+
+unfoldable pub leads : Setting → List Move → Form → Form → Bool
+leads s moves f g = arrives (all_done s moves f) g
+
+-- and for others in place of the variables
+abbrev pub leads_from : Setting → List Move → Option Form → Option Form → Bool
+leads_from s moves None g = false
+leads_from s moves (Some f) None = false
+leads_from s moves (Some f) (Some g) = leads s moves f g
+
+unfoldable pub leads_by : Setting → Four → List Move → RuleForm → Bool
+leads_by s by moves rule = leads_from s moves (form_by by rule.from) (form_by by rule.to)
+
+abbrev pub with_a : Times → Four
+with_a a = record { a = a; b = times_of 0 0 1 0 0; c = times_of 0 0 0 1 0; d = times_of 0 0 0 0 1 }
+
+abbrev pub setting : Machine → List RuleForm → Option RuleForm → Bool → Bool → Setting
+setting m rules again open_left open_right =
+    record { machine = m; rules = rules; again = again; open_left = open_left; open_right = open_right }
+
+unfoldable pub is_proved_by : Machine → List RuleForm → RuleForm → Option (List Move) → List Move → Bool
+is_proved_by m rules rule None moves = leads (setting m rules None rule.open_left rule.open_right) moves rule.from rule.to
+is_proved_by m rules rule (Some base) moves =
+    leads_by (setting m rules None rule.open_left rule.open_right) (with_a never_once) base rule
+    && leads_by (setting m rules (Some rule) rule.open_left rule.open_right) (with_a (times_of 1 1 0 0 0)) moves rule
+
+-- whether all are proved, each by those before it
+unfoldable pub are_proved : Machine → List RuleForm → List Proved → Bool
+are_proved m rules [] = true
+are_proved m rules (p ∷ ps) = is_proved_by m rules p.rule p.base p.script && are_proved m (rules ++ p.rule ∷ []) ps
+
+abbrev pub forms_of : List Proved → List RuleForm
+forms_of [] = []
+forms_of (p ∷ ps) = p.rule ∷ forms_of ps
+
+abbrev pub blank_form : Form
+blank_form = form_of [] 0 R []
+
+-- how many steps of the machine a certificate has, in all its scripts
+abbrev pub base_steps : Option (List Move) → ℕ
+base_steps None = 0
+base_steps (Some moves) = steps_in moves
+
+abbrev pub steps_of_all : List Proved → ℕ
+steps_of_all [] = 0
+steps_of_all (p ∷ ps) = base_steps p.base + steps_in p.script + steps_of_all ps
+
+abbrev pub all_steps : Certificate → ℕ
+all_steps c = steps_of_all c.rules + steps_in c.begin + steps_in c.loop
+
+-- whether the certificate is one of the machine
+unfoldable pub is_certificate : Machine → Certificate → Bool
+is_certificate m c =
+    nat_le (all_steps c) all_steps_limit
+    && (are_proved m [] c.rules
+    && (leads_from (setting m (forms_of c.rules) None false false) c.begin (Some blank_form) (form_by c.first c.family)
+    && (leads_from (setting m (forms_of c.rules) None false false) c.loop (Some c.family) (form_by c.next c.family)
+    && has_step c.loop)))

@@ -1,5 +1,5 @@
 -- Rules with induction are a kind.
-use Rattle.std.proofs.Common.{◌≡◌, ℕ, ◌+◌, ◌<◌, ◌≤◌, ◌&&◌, Bool, true, false, ltb, List, [], ◌∷◌, length, Option, Some, None, Ok, refl, ap, arith, subst}
+use Rattle.std.proofs.Common.{◌≡◌, ℕ, ◌≤◌, true, false, ltb, List, [], ◌∷◌, length, None, Ok, refl, ap, arith, subst}
 use Rattle.std.specs.Prelude.{is_some, nat_le, IsTrue, All}
 use Rattle.std.proofs.lemmas.Bool.{and_parts, false≢true}
 use Rattle.std.proofs.lemmas.Bool.Decides.{nat_tests}
@@ -9,7 +9,6 @@ use Rattle.text.specs.Fields.{IsField, spaced}
 use Rattle.text.proofs.Spaced.{and_field, no_fields, length-spaced}
 use Rattle.kind_evidence.specs.Kind.{IsKind, room_for_fields}
 use Rattle.kind_evidence.proofs.Letters.{is_letter}
-use Rattle.law_induction.specs.Rules.{Certificate}
 use Rattle.kind_rules.specs.Limits.{rules_byte_limit}
 use Rattle.kind_rules.specs.RuleTexts.{RuleTexts, are_high, all_high, given_by, bytes_of, certificate_in, AreRuleTexts}
 use Rattle.kind_rules.specs.Fields.{rules_by, rule_texts_by, rule_fields}

@@ -1,7 +1,7 @@
 -- Six texts one behind another, cut again.
-use Rattle.std.proofs.Common.{◌≡◌, ℕ, ◌+◌, ◌≤◌, List, ◌++◌, length, append_assoc, length-append, refl, sym, ap, ◌∙◌, subst, arith}
+use Rattle.std.proofs.Common.{◌≡◌, ℕ, ◌+◌, ◌≤◌, List, ◌++◌, length, append_assoc, length-append, refl, ap, ◌∙◌, arith}
 use Rattle.std.proofs.Math.Seq.{take-append_seam, drop-append_seam}
-use Rattle.kind_rules.specs.RuleTexts.{RuleTexts, rule_texts, texts_in}
+use Rattle.kind_rules.specs.RuleTexts.{rule_texts, texts_in}
 
 abbrev joined : (a b c d e f : List ℕ) → List ℕ
 joined a b c d e f = ((((a ++ b) ++ c) ++ d) ++ e) ++ f

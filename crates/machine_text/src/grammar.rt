@@ -1,14 +1,14 @@
 // Which table a text names, and why a text is no table.
-ghost use Rattle.std.specs.Prelude.{◌≡◌, ◌+◌, ◌*◌, ◌<◌, ◌≤◌, true, false, [], ◌∷◌, List, length, IfSome, IfNone, OnOk, IfErr};
+ghost use Rattle.std.specs.Prelude.{◌≡◌, ◌≢◌, ℕ, ◌+◌, ◌*◌, ◌%◌, ◌^◌, ◌<◌, ◌≤◌, true, false, [], ◌∷◌, List, length, slice_index, IfSome, IfNone};
 ghost use Rattle.machine_text.specs.declared.faults.TextFault.{TextFault as Fault};
 ghost use Rattle.machine_text.specs.Text.{is_table_length, states_in, fault_at, faults_of, entry_named, table_named, may_begin, may_direct, may_end, is_state_letter, symbol_byte, direction_byte};
-ghost use Rattle.machine_text.specs.inside.{entry_byte};
+ghost use Rattle.machine_text.specs.inside.{code_at, entry_place, with_entry_bytes};
 ghost use Rattle.std.specs.Option.{ForSome};
-ghost use Rattle.machine_text.specs.Limits.{state_limit};
+ghost use Rattle.machine_text.specs.Limits.{state_limit, text_byte_limit};
 
 use crate::code::Code;
 use crate::faults::TextFault;
-use crate::limits::{MAX_ENTRIES, MAX_STATES};
+use crate::limits::{MAX_ENTRIES, MAX_STATES, TEXT_BYTES};
 use crate::transition::{Dir, Entry, State, Sym};
 
 /// How many states a text of this length has; none where that is no table's length.
@@ -25,31 +25,67 @@ pub(crate) fn states_in(text: &[u8]) -> Option<u8>
     }
 }
 
-/// Ok where no place of a text of so many states is faulty, otherwise the leftmost fault.
-pub(crate) fn check_places(states: u8, text: &[u8]) -> Result<(), TextFault>
-    requires { states ≤ state_limit }
-    ensures clean { OnOk result (faults_of states text.now ≡ []) }
-    ensures leftmost { IfErr result (λ f. (others : List Fault) × (faults_of states text.now ≡ f ∷ others)) }
+/// The codes of the table that a text of so many states names; none where one of its places is faulty.
+pub(crate) fn codes_named(states: u8, text: &[u8]) -> Option<[Code; MAX_ENTRIES]>
+    requires length { 7 * states ≡ length text.now + 1 }
+    requires limit { states ≤ state_limit }
+    ensures clean { IfSome result (λ codes. faults_of states text.now ≡ []) }
+    ensures some { IfSome result (λ codes. codes ≡ (table_named states text.now).codes) }
+    ensures none { IfNone result (faults_of states text.now ≢ []) }
+{
+    if !bars_stand(text) {
+        return None;
+    }
+    let mut codes = [Code::UNDEFINED; MAX_ENTRIES];
+    for k in 0..2 * states as usize {
+        codes[k] = code_at(states, text, entry_place(k))?;
+    }
+    Some(codes)
+}
+
+/// The leftmost fault of a text of so many states; only where `codes_named` gives none, which is faster.
+pub(crate) fn leftmost_fault(states: u8, text: &[u8]) -> TextFault
+    requires limit { states ≤ state_limit }
+    requires faulty { faults_of states text.now ≢ [] }
+    ensures { (others : List Fault) × (faults_of states text.now ≡ result ∷ others) }
 {
     for place in 0..text.len() {
         if let Some(fault) = fault_at(states, text, place) {
-            return Err(fault);
+            return fault;
         }
     }
-    Ok(())
+    unreachable!()
 }
 
-/// The codes of the table that a text of so many states without a fault names.
-pub(crate) fn codes_named(states: u8, text: &[u8]) -> [Code; MAX_ENTRIES]
-    requires length { 7 * states ≡ length text.now + 1 }
-    requires limit { states ≤ state_limit }
-    ensures { result ≡ (table_named states text.now).codes }
+// Whether a bar stands at each place of one.
+fn bars_stand(text: &[u8]) -> bool
+    ensures all { result ≡ true → (i : ℕ) → i < length text.now → i % 7 ≡ 6 → slice_index text.now i ≡ 95 }
+    ensures one { result ≡ false → (i : ℕ) × (i < length text.now) × (i % 7 ≡ 6) × (slice_index text.now i ≢ 95) }
 {
-    let mut codes = [Code::UNDEFINED; MAX_ENTRIES];
-    for k in 0..2 * states as usize {
-        codes[k] = Code::of(entry_named(states, text, 7 * (k / 2) + 3 * (k % 2)));
+    for row in 0..text.len() / 7 {
+        if text[7 * row + 6] != b'_' {
+            return false;
+        }
     }
-    codes
+    true
+}
+
+// The code of the entry that the three bytes from a place on name; none where one of them is faulty.
+#[inline]
+fn code_at(states: u8, text: &[u8], place: usize) -> Option<Code>
+    requires place { place + 2 < length text.now }
+    requires limit { states ≤ state_limit }
+    ensures { result ≡ code_at states text.now place }
+{
+    let symbol = text[place];
+    if may_begin(symbol)
+        && may_direct(symbol, text[place + 1])
+        && may_end(states, symbol, text[place + 2])
+    {
+        Some(Code::of(entry_named(states, text, place)))
+    } else {
+        None
+    }
 }
 
 // The fault at a place, if there is one.
@@ -140,19 +176,29 @@ fn entry_named(states: u8, text: &[u8], place: usize) -> Option<Entry>
     })
 }
 
-/// One of the three bytes of an entry's text.
-pub(crate) fn entry_byte(entry: Option<Entry>, column: usize) -> u8
-    requires { ForSome entry (λ e. e.next.0 < 26) }
-    ensures { result ≡ entry_byte entry column }
+/// The place in a text of the entry at a place among the codes.
+#[inline]
+pub(crate) fn entry_place(code: usize) -> usize
+    requires { code < 2 ^ 32 }
+    ensures { result ≡ entry_place code }
 {
-    let Some(e) = entry else {
-        return b'-';
+    7 * (code / 2) + 3 * (code % 2)
+}
+
+/// Writes the three bytes of an entry from a place on.
+#[inline]
+pub(crate) fn put_entry(entry: Option<Entry>, place: usize, buf: &mut [u8; TEXT_BYTES])
+    requires place { place + 2 < text_byte_limit }
+    requires next { ForSome entry (λ e. e.next.0 < 26) }
+    ensures { buf.new ≡ with_entry_bytes buf.old place entry }
+{
+    let (symbol, direction, letter) = match entry {
+        None => (b'-', b'-', b'-'),
+        Some(e) => (symbol_byte(e.write), direction_byte(e.dir), b'A' + e.next.0),
     };
-    match column {
-        0 => symbol_byte(e.write),
-        1 => direction_byte(e.dir),
-        _ => b'A' + e.next.0,
-    }
+    buf[place] = symbol;
+    buf[place + 1] = direction;
+    buf[place + 2] = letter;
 }
 
 fn symbol_byte(s: Sym) -> u8

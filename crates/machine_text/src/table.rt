@@ -80,7 +80,6 @@ impl Table {
     ghost use Rattle.machine_text.specs.Packed.{IsTable, entry_of, filled, with_entry, empty_table, holes};
     ghost use Rattle.machine_text.specs.declared.transition.Sym.{Sym as Symbol};
     ghost use Rattle.machine_text.specs.Text.{table_of, text_of};
-    ghost use Rattle.machine_text.specs.inside.{byte_at};
 
     /// The table of n states in which each pair is undefined.
     pub fn empty(n: u8) -> Table
@@ -112,11 +111,10 @@ impl Table {
         let Some(states) = grammar::states_in(text) else {
             return Err(TextFault::BadLength);
         };
-        grammar::check_places(states, text)?;
-        Ok(Table {
-            codes: grammar::codes_named(states, text),
-            states,
-        })
+        match grammar::codes_named(states, text) {
+            Some(codes) => Ok(Table { codes, states }),
+            None => Err(grammar::leftmost_fault(states, text)),
+        }
     }
 
     /// The table's text, written into `buf`: the rows of its states with `_` between them, an undefined
@@ -129,25 +127,11 @@ impl Table {
             × (slice_index result.now k ≢ 90)) }
         ensures parses { table_of result.now ≡ Ok self.now }
     {
-        let len = 7 * self.states as usize - 1;
-        for place in 0..len {
-            buf[place] = self.byte(place);
+        buf.fill(b'_');
+        for k in 0..2 * self.states as usize {
+            grammar::put_entry(self.codes[k].entry(), grammar::entry_place(k), buf);
         }
-        &buf[..len]
-    }
-
-    // The byte of the text at a place.
-    fn byte(&self, place: usize) -> u8
-        requires { place + 1 < 7 * self.now.states }
-        ensures { result ≡ byte_at self.now place }
-    {
-        let column = place % 7;
-        if column == 6 {
-            b'_'
-        } else {
-            let entry = self.codes[2 * (place / 7) + column / 3].entry();
-            grammar::entry_byte(entry, column % 3)
-        }
+        &buf[..7 * self.states as usize - 1]
     }
 
     /// The entry at a state of the table and a symbol; none where the pair halts.

@@ -1,11 +1,12 @@
-use Rattle.std.proofs.Common.{◌≡◌, ℕ, ◌<◌, length, get_or}
-use Rattle.machine_text.specs.inside.{byte_at}
+use Rattle.std.proofs.Common.{◌≡◌, length}
 use Rattle.machine_text.specs.Limits.{text_byte_limit}
+use Rattle.machine_text.proofs.Written.{BarsStand, AreWritten}
 use Rattle.machine_text.proofs.table.Table.text.Given as goal
 
--- the bytes before the place are those of the text
-abbrev pub invariant-loop-place : goal.invariant-loop-place
-invariant-loop-place l = record {
+-- the bars stand, and so do the bytes of the entries before k
+abbrev pub invariant-loop-k : goal.invariant-loop-k
+invariant-loop-k l = record {
   size : length l.buf ≡ text_byte_limit;
-  written : (j : ℕ) → j < l.place → get_or l.buf j 0 ≡ byte_at l.self j;
+  bars : BarsStand l.buf;
+  written : AreWritten l.self l.k l.buf;
 }

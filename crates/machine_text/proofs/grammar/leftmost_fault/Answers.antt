@@ -1,8 +1,8 @@
 use Rattle.std.proofs.Common.{◌≡◌, ℕ, ◌-◌, ap, ◌∙◌, sym, length, arith}
 use Rattle.std.specs.List.{range_with_len, filter_map}
 use Rattle.machine_text.specs.Text.{fault_at, faults_of}
-use Rattle.machine_text.proofs.Ranges.{found_later, found_here, found_at_end}
-use Rattle.machine_text.proofs.grammar.check_places.Goals as goal
+use Rattle.machine_text.proofs.Ranges.{found_later, found_here}
+use Rattle.machine_text.proofs.grammar.leftmost_fault.Goals as goal
 
 pub loop-place-init : goal.loop-place-init
 unfolding faults_of
@@ -17,13 +17,9 @@ loop-place-preserved c =
     ∙ found_later (fault_at c.args.states c.args.text.now) c.loop-place.place (length c.args.text.now) (omega arith) (sym c.fault_at.ensures ∙ c.in_default.is)
 
 -- the fault here is the first of them
-pub returns-in-Some-clause-leftmost : goal.returns-in-Some-clause-leftmost
-returns-in-Some-clause-leftmost c = (
+pub returns-in-Some : goal.returns-in-Some
+returns-in-Some c = (
   _,
   c.loop-place.invariant
       ∙ found_here (fault_at c.args.states c.args.text.now) c.loop-place.place (length c.args.text.now) c.in-Some.fault (omega arith) (sym c.fault_at.ensures ∙ c.in-Some.is),
 )
-
-pub returns-clause-clean : goal.returns-clause-clean
-returns-clause-clean c =
-    c.loop-place.invariant ∙ found_at_end (fault_at c.args.states c.args.text.now) c.loop-place.place (length c.args.text.now) (omega arith)

@@ -1,7 +1,7 @@
 use Rattle.std.proofs.Common.{◌≡◌, ◌-◌, length}
 use Rattle.std.specs.List.{range_with_len, filter_map}
 use Rattle.machine_text.specs.Text.{fault_at, faults_of}
-use Rattle.machine_text.proofs.grammar.check_places.Given as goal
+use Rattle.machine_text.proofs.grammar.leftmost_fault.Given as goal
 
 -- the faults are those of the places that are left
 abbrev pub invariant-loop-place : goal.invariant-loop-place

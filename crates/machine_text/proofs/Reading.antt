@@ -1,0 +1,127 @@
+-- A text is read entry by entry: where each entry fits and each bar stands, no place is faulty, and else one is.
+use Rattle.std.proofs.Common.{◌≡◌, ◌≢◌, ℕ, ◌+◌, ◌-◌, ◌*◌, ◌/◌, ◌%◌, ◌<◌, ◌&&◌, Bool, true, false, cond, eqb, List, [], length, get_or, Some, None, refl, sym, ap, ◌∙◌, inl, inr, arith}
+use Rattle.std.proofs.lemmas.Bool.{cases_lt}
+use Rattle.std.proofs.lemmas.Bool.Decides.{nat_tests}
+use Rattle.machine_text.specs.declared.faults.TextFault.{TextFault}
+use Rattle.machine_text.specs.declared.faults.TextFault.TheVariants.{BadBar, BadSymbol, BadDir, BadState}
+use Rattle.machine_text.specs.Packed.{code_of}
+use Rattle.machine_text.specs.Text.{may_begin, may_direct, may_end, unless, fault_at, faults_of, entry_named}
+use Rattle.machine_text.specs.inside.{code_at, entry_place, entry_fits}
+use Rattle.machine_text.proofs.Ranges.{found_nowhere, nowhere_found}
+
+fits_of : (b : Bool) (f : TextFault) → unless b f ≡ None → b ≡ true
+fits_of true f none = refl
+fits_of false f none = absurd cc
+
+left_of : (a b : Bool) → (a && b) ≡ true → a ≡ true
+left_of true b both = refl
+left_of false b both = both
+
+right_of : (a b : Bool) → (a && b) ≡ true → b ≡ true
+right_of true b both = both
+right_of false b both = absurd cc
+
+module _ (n : ℕ) (text : List ℕ) where
+  abbrev Clean : ℕ → Type 0
+  Clean i = fault_at n text i ≡ None
+
+  at_bar : (i : ℕ) → i % 7 ≡ 6 → fault_at n text i ≡ unless (eqb (get_or text i 0) 95) (BadBar i)
+  unfolding fault_at
+  at_bar i bar = rw bar refl
+
+  module _ (k : ℕ) where
+    abbrev place : ℕ
+    place = entry_place k
+
+    abbrev begun : ℕ
+    begun = get_or text place 0
+
+    at_symbol : fault_at n text place ≡ unless (may_begin begun) (BadSymbol place)
+    unfolding fault_at
+    at_symbol =
+        let no_bar : eqb (place % 7) 6 ≡ false = grind (arith, nat_tests) in
+        let column : place % 7 % 3 ≡ 0 = omega arith in
+        rw (no_bar, column) refl
+
+    at_direction : fault_at n text (place + 1) ≡ unless (may_direct begun (get_or text (place + 1) 0)) (BadDir (place + 1))
+    unfolding fault_at
+    at_direction =
+        let no_bar : eqb ((place + 1) % 7) 6 ≡ false = grind (arith, nat_tests) in
+        let column : (place + 1) % 7 % 3 ≡ 1 = omega arith in
+        let before : place + 1 - 1 ≡ place = omega arith in
+        rw (no_bar, column, before) refl
+
+    at_state : fault_at n text (place + 2) ≡ unless (may_end n begun (get_or text (place + 2) 0)) (BadState (place + 2))
+    unfolding fault_at
+    at_state =
+        let no_bar : eqb ((place + 2) % 7) 6 ≡ false = grind (arith, nat_tests) in
+        let column : (place + 2) % 7 % 3 ≡ 2 = omega arith in
+        let before : place + 2 - 2 ≡ place = omega arith in
+        rw (no_bar, column, before) refl
+
+    pub fits_where_clean : Clean place → Clean (place + 1) → Clean (place + 2) → entry_fits n text place ≡ true
+    fits_where_clean symbol direction state =
+        let begins : may_begin begun ≡ true = fits_of _ _ (sym at_symbol ∙ symbol) in
+        let directs : may_direct begun (get_or text (place + 1) 0) ≡ true = fits_of _ _ (sym at_direction ∙ direction) in
+        let ends : may_end n begun (get_or text (place + 2) 0) ≡ true = fits_of _ _ (sym at_state ∙ state) in
+        rw (begins, directs, ends) refl
+
+    pub clean_where_fits : entry_fits n text place ≡ true → (c : ℕ) → c < 3 → Clean (place + c)
+    clean_where_fits fits c small =
+        let begins : may_begin begun ≡ true = left_of _ _ fits in
+        let rest = right_of (may_begin begun) _ fits in
+        let directs : may_direct begun (get_or text (place + 1) 0) ≡ true = left_of _ _ rest in
+        let ends : may_end n begun (get_or text (place + 2) 0) ≡ true = right_of (may_direct begun (get_or text (place + 1) 0)) _ rest in
+        elim (cases_lt c 1) [
+          | inl first ↦ ap (fault_at n text) (let e : place + c ≡ place = omega arith in e) ∙ at_symbol ∙ rw begins refl
+          | inr later ↦ elim (cases_lt c 2) [
+            | inl second ↦ ap (fault_at n text) (let e : place + c ≡ place + 1 = omega arith in e) ∙ at_direction ∙ rw directs refl
+            | inr third ↦ ap (fault_at n text) (let e : place + c ≡ place + 2 = omega arith in e) ∙ at_state ∙ rw ends refl
+          ]
+        ]
+
+  -- no place of the first k entries is faulty
+  abbrev pub AreClean : ℕ → Type 0
+  AreClean k = (i : ℕ) → i % 7 < 6 → 2 * (i / 7) + i % 7 / 3 < k → Clean i
+
+  pub one_more_clean : (k : ℕ) → AreClean k → entry_fits n text (entry_place k) ≡ true → AreClean (k + 1)
+  one_more_clean k clean fits i beside below = elim (cases_lt (2 * (i / 7) + i % 7 / 3) k) [
+    | inl before ↦ clean i beside before
+    | inr here ↦
+        let place_of : i ≡ entry_place k + i % 7 % 3 = omega arith in
+        ap (fault_at n text) place_of ∙ clean_where_fits k fits (i % 7 % 3) (omega arith)
+  ]
+
+  pub no_faults_read : 7 * n ≡ length text + 1 → ((i : ℕ) → i < length text → i % 7 ≡ 6 → get_or text i 0 ≡ 95) → AreClean (2 * n) → faults_of n text ≡ []
+  unfolding faults_of
+  no_faults_read size bars clean = found_nowhere (fault_at n text) 0 (length text) (λ i low high. elim (cases_lt (i % 7) 6) [
+    | inl beside ↦ clean i beside (omega arith)
+    | inr bar ↦
+        let is_bar : i % 7 ≡ 6 = omega arith in
+        at_bar i is_bar ∙ rw (bars i (omega arith) is_bar) refl
+  ])
+
+  -- an entry that doesn't fit, or a place of a bar without one, is a fault
+  clean_at : faults_of n text ≡ [] → (i : ℕ) → i < length text → Clean i
+  unfolding faults_of
+  clean_at none i below = nowhere_found (fault_at n text) 0 (length text) none i (omega arith) (omega arith)
+
+  pub faulty_entry : (k : ℕ) → entry_place k + 2 < length text → entry_fits n text (entry_place k) ≡ false → faults_of n text ≢ []
+  faulty_entry k within misfit none =
+      let fits = fits_where_clean k (clean_at none (entry_place k) (omega arith)) (clean_at none (entry_place k + 1) (omega arith)) (clean_at none (entry_place k + 2) within) in
+      absurd (let e : true ≡ false = sym fits ∙ misfit in cc)
+
+  pub faulty_bar : (i : ℕ) → i < length text → i % 7 ≡ 6 → get_or text i 0 ≢ 95 → faults_of n text ≢ []
+  faulty_bar i within bar other none =
+      let stands : eqb (get_or text i 0) 95 ≡ true = fits_of _ _ (sym (at_bar i bar) ∙ clean_at none i within) in
+      other (grind (arith, nat_tests))
+
+  -- what is read at a place
+  pub code_at_none : (i : ℕ) → code_at n text i ≡ None → entry_fits n text i ≡ false
+  code_at_none i none = elim (entry_fits n text i) as (λ b. cond b (Some (code_of (entry_named n text i))) None ≡ None → b ≡ false) [ true ↦ λ e. absurd cc | false ↦ λ _. refl ] none
+
+  pub code_at_some : (i code : ℕ) → code_at n text i ≡ Some code → (entry_fits n text i ≡ true) × (code ≡ code_of (entry_named n text i))
+  code_at_some i code some = elim (entry_fits n text i) as (λ b. cond b (Some (code_of (entry_named n text i))) None ≡ Some code → (b ≡ true) × (code ≡ code_of (entry_named n text i))) [
+    | true ↦ λ e. (refl, cc)
+    | false ↦ λ e. absurd cc
+  ] some

@@ -8,8 +8,9 @@ use Rattle.ngram_cps.proofs.KindLaws.{ngram_is_kind}
 use Rattle.far.proofs.KindLaws.{far_is_kind}
 use Rattle.far.proofs.ListedKindLaws.{listed_is_kind}
 use Rattle.kind_counted.proofs.KindLaws.{counted_is_kind}
+use Rattle.kind_rules.proofs.KindLaws.{rules_are_kind}
 use Rattle.kind_named.proofs.KindLaws.{named_is_kind}
-use Rattle.cert.specs.Reason.{Reason, CycleReason, TranslatedReason, BackwardReason, NgramReason, FarReason, ListedReason, CountedReason, NamedReason, with_kind, reason_letter, reason_fields, reason_meaning}
+use Rattle.cert.specs.Reason.{Reason, CycleReason, TranslatedReason, BackwardReason, NgramReason, FarReason, ListedReason, CountedReason, RulesReason, NamedReason, with_kind, reason_letter, reason_fields, reason_meaning}
 use Rattle.cert.specs.Claim.{NeverClaim}
 use Rattle.cert.specs.Grammar.{claim_by}
 
@@ -21,6 +22,7 @@ kind_laws (NgramReason s) = ngram_is_kind
 kind_laws (FarReason a) = far_is_kind
 kind_laws (ListedReason t) = listed_is_kind
 kind_laws (CountedReason t) = counted_is_kind
+kind_laws (RulesReason t) = rules_are_kind
 kind_laws (NamedReason e) = named_is_kind
 
 -- a reason that is written reads back
@@ -32,4 +34,5 @@ reason_back (NgramReason s) n writable made = ap (λ x. made_of NeverClaim (made
 reason_back (FarReason a) n writable made = ap (λ x. made_of NeverClaim (made_of FarReason x)) (far_is_kind.back a n writable made)
 reason_back (ListedReason t) n writable made = ap (λ x. made_of NeverClaim (made_of ListedReason x)) (listed_is_kind.back t n writable made)
 reason_back (CountedReason t) n writable made = ap (λ x. made_of NeverClaim (made_of CountedReason x)) (counted_is_kind.back t n writable made)
+reason_back (RulesReason t) n writable made = ap (λ x. made_of NeverClaim (made_of RulesReason x)) (rules_are_kind.back t n writable made)
 reason_back (NamedReason e) n writable made = ap (λ x. made_of NeverClaim (made_of NamedReason x)) (named_is_kind.back e n writable made)

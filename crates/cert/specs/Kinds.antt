@@ -1,19 +1,20 @@
 -- What the certificates and records of the code claim.
 use Rattle.cert.specs.Claim.{Claim, HaltsClaim, NeverClaim, NoClaim, Recorded}
-use Rattle.cert.specs.Reason.{CycleReason, TranslatedReason, BackwardReason, NgramReason, FarReason, ListedReason, CountedReason, NamedReason}
+use Rattle.cert.specs.Reason.{CycleReason, TranslatedReason, BackwardReason, NgramReason, FarReason, ListedReason, CountedReason, RulesReason, NamedReason}
 use Rattle.std.specs.Prelude.{Result, Ok, Err}
 use Rattle.far.specs.Far.{automata_of}
 use Rattle.far.specs.OwnedFar.{owned_automata}
 use Rattle.kind_counted.specs.CountedCosets.{coset_texts_of}
 use Rattle.kind_counted.specs.OwnedCosets.{owned_coset_texts}
+use Rattle.kind_rules.specs.Claims.{rule_texts_of, owned_rule_texts}
 use Rattle.far.specs.Listed.{texts_of}
 use Rattle.far.specs.OwnedListed.{owned_texts}
 use Rattle.ngram_cps.specs.Ngram.{lists_of}
 use Rattle.ngram_cps.specs.Owned.{owned_lists}
 use Rattle.cert.specs.declared.certificate.Certificate.{Certificate}
-use Rattle.cert.specs.declared.certificate.Certificate.TheVariants.{Halts, Cycle, Translated, Backward, Ngram, Far, Listed, Counted, Named, Undecided}
+use Rattle.cert.specs.declared.certificate.Certificate.TheVariants.{Halts, Cycle, Translated, Backward, Ngram, Far, Listed, Counted, Rules, Named, Undecided}
 use Rattle.cert.specs.declared.certificate.OwnedCertificate.{OwnedCertificate}
-use Rattle.cert.specs.declared.certificate.OwnedCertificate.TheVariants.{Halts as OwnedHalts, Cycle as OwnedCycle, Translated as OwnedTranslated, Backward as OwnedBackward, Ngram as OwnedNgram, Far as OwnedFar, Listed as OwnedListed, Counted as OwnedCounted, Named as OwnedNamed, Undecided as OwnedUndecided}
+use Rattle.cert.specs.declared.certificate.OwnedCertificate.TheVariants.{Halts as OwnedHalts, Cycle as OwnedCycle, Translated as OwnedTranslated, Backward as OwnedBackward, Ngram as OwnedNgram, Far as OwnedFar, Listed as OwnedListed, Counted as OwnedCounted, Rules as OwnedRules, Named as OwnedNamed, Undecided as OwnedUndecided}
 use Rattle.cert.specs.declared.record.Record.{Record}
 use Rattle.cert.specs.declared.record.OwnedRecord.{OwnedRecord}
 use Rattle.cert.specs.declared.record_fault.RecordFault.{RecordFault}
@@ -27,6 +28,7 @@ claim_of (Ngram e) = NeverClaim (NgramReason (lists_of e))
 claim_of (Far e) = NeverClaim (FarReason (automata_of e))
 claim_of (Listed e) = NeverClaim (ListedReason (texts_of e))
 claim_of (Counted e) = NeverClaim (CountedReason (coset_texts_of e))
+claim_of (Rules e) = NeverClaim (RulesReason (rule_texts_of e))
 claim_of (Named e) = NeverClaim (NamedReason e)
 claim_of Undecided = NoClaim
 
@@ -39,6 +41,7 @@ owned_claim (OwnedNgram e) = NeverClaim (NgramReason (owned_lists e.value))
 owned_claim (OwnedFar e) = NeverClaim (FarReason (owned_automata e.value))
 owned_claim (OwnedListed e) = NeverClaim (ListedReason (owned_texts e.value))
 owned_claim (OwnedCounted e) = NeverClaim (CountedReason (owned_coset_texts e.value))
+owned_claim (OwnedRules e) = NeverClaim (RulesReason (owned_rule_texts e.value))
 owned_claim (OwnedNamed e) = NeverClaim (NamedReason e)
 owned_claim OwnedUndecided = NoClaim
 

@@ -19,6 +19,8 @@ use Rattle.far.specs.ListedTexts.{ListedTexts}
 use Rattle.far.specs.ListedKind.{listed_kind}
 use Rattle.kind_counted.specs.CosetTexts.{CosetTexts}
 use Rattle.kind_counted.specs.Kind.{counted_kind}
+use Rattle.kind_rules.specs.RuleTexts.{RuleTexts}
+use Rattle.kind_rules.specs.Kind.{rules_kind}
 use Rattle.kind_named.specs.declared.named.Named.{Named}
 use Rattle.kind_named.specs.Kind.{named_kind}
 
@@ -31,6 +33,7 @@ pub data Reason : Type 0 where
   FarReason : Automata → Reason
   ListedReason : ListedTexts → Reason
   CountedReason : CosetTexts → Reason
+  RulesReason : RuleTexts → Reason
   NamedReason : Named → Reason
 
 -- what is claimed, with its kind
@@ -47,6 +50,7 @@ with_kind (NgramReason s) = record { Claimed = Lists; kind = ngram_kind; claimed
 with_kind (FarReason a) = record { Claimed = Automata; kind = far_kind; claimed = a }
 with_kind (ListedReason t) = record { Claimed = ListedTexts; kind = listed_kind; claimed = t }
 with_kind (CountedReason t) = record { Claimed = CosetTexts; kind = counted_kind; claimed = t }
+with_kind (RulesReason t) = record { Claimed = RuleTexts; kind = rules_kind; claimed = t }
 with_kind (NamedReason e) = record { Claimed = Named; kind = named_kind; claimed = e }
 
 -- the reason that a letter with fields makes, for a table of n states
@@ -59,6 +63,7 @@ reason_by n letter fields =
     else if bytes_eq letter far_kind.letter then made_of FarReason (far_kind.by n fields)
     else if bytes_eq letter listed_kind.letter then made_of ListedReason (listed_kind.by n fields)
     else if bytes_eq letter counted_kind.letter then made_of CountedReason (counted_kind.by n fields)
+    else if bytes_eq letter rules_kind.letter then made_of RulesReason (rules_kind.by n fields)
     else if bytes_eq letter named_kind.letter then made_of NamedReason (named_kind.by n fields)
     else Err BadKind
 

@@ -10,6 +10,7 @@ use far::{Far, Listed, OwnedFar, OwnedListed};
 use kind_counted::{CountedCosets, OwnedCosets};
 use kind_evidence::{Ending, NoMemory, Verdict};
 use kind_named::Named;
+use kind_rules::{OwnedRules, Rules};
 use loops::{Cycle, Translated};
 use ngram_cps::{Ngram, OwnedNgram};
 use run::HaltsIn;
@@ -38,6 +39,9 @@ pub enum Certificate<'a> {
     /// `W i j left right cosets`: two automata of i and j counts, and the cosets in which the counts lie, by which it never
     /// halts; three texts, borrowed from the record's.
     Counted(CountedCosets<'a>),
+    /// `R rules family first begin next loop`: rules with induction, by which its run comes to the forms of a family again and
+    /// again; six texts, borrowed from the record's.
+    Rules(Rules<'a>),
     /// `P`: the table is one of those that have a proof of their own that they never halt.
     Named(Named),
     /// `U`: nothing is claimed.
@@ -56,6 +60,7 @@ pub enum OwnedCertificate {
     Far(Box<OwnedFar>),
     Listed(Box<OwnedListed>),
     Counted(Box<OwnedCosets>),
+    Rules(Box<OwnedRules>),
     Named(Named),
     Undecided,
 }
@@ -100,6 +105,8 @@ impl<'a> Certificate<'a> {
             Ok(Certificate::Listed(Listed::read(states, fields)?))
         } else if letter == b"W".as_slice() {
             Ok(Certificate::Counted(CountedCosets::read(states, fields)?))
+        } else if letter == b"R".as_slice() {
+            Ok(Certificate::Rules(Rules::read(states, fields)?))
         } else if letter == b"P".as_slice() {
             Ok(Certificate::Named(Named::read(fields)?))
         } else {
@@ -150,6 +157,7 @@ impl Certificate<'_> {
             Certificate::Far(evidence) => evidence.append_fields(out),
             Certificate::Listed(evidence) => evidence.append_fields(out),
             Certificate::Counted(evidence) => evidence.append_fields(out),
+            Certificate::Rules(evidence) => evidence.append_fields(out),
             Certificate::Named(evidence) => evidence.append_fields(out),
             Certificate::Undecided => Ok(()),
         }
@@ -169,6 +177,7 @@ impl Certificate<'_> {
             Certificate::Far(_) => b"F",
             Certificate::Listed(_) => b"A",
             Certificate::Counted(_) => b"W",
+            Certificate::Rules(_) => b"R",
             Certificate::Named(_) => b"P",
             Certificate::Undecided => b"U",
         }
@@ -201,6 +210,9 @@ impl OwnedCertificate {
             }
             Certificate::Counted(evidence) => {
                 OwnedCertificate::Counted(Box::new(alloc, OwnedCosets::of(alloc, &evidence)?)?)
+            }
+            Certificate::Rules(evidence) => {
+                OwnedCertificate::Rules(Box::new(alloc, OwnedRules::of(alloc, &evidence)?)?)
             }
             Certificate::Named(evidence) => OwnedCertificate::Named(evidence),
             Certificate::Undecided => OwnedCertificate::Undecided,
@@ -248,6 +260,7 @@ impl OwnedCertificate {
             OwnedCertificate::Far(evidence) => Certificate::Far(evidence.lent()),
             OwnedCertificate::Listed(evidence) => Certificate::Listed(evidence.lent()),
             OwnedCertificate::Counted(evidence) => Certificate::Counted(evidence.lent()),
+            OwnedCertificate::Rules(evidence) => Certificate::Rules(evidence.lent()),
             OwnedCertificate::Named(evidence) => Certificate::Named(*evidence),
             OwnedCertificate::Undecided => Certificate::Undecided,
         }

@@ -65,6 +65,7 @@ pub fn judge_on(alloc: Global, r: &Record) -> Result<Judged, Refused>
         Certificate::Far(evidence) => checked(evidence, alloc, &r.table),
         Certificate::Listed(evidence) => checked(evidence, alloc, &r.table),
         Certificate::Counted(evidence) => checked(evidence, alloc, &r.table),
+        Certificate::Rules(evidence) => checked(evidence, alloc, &r.table),
         Certificate::Named(evidence) => checked(evidence, alloc, &r.table),
         Certificate::Undecided => Ok(Judged {
             verdict: None,

@@ -2,7 +2,7 @@
 use Rattle.std.specs.Prelude.{◌≡◌, ℕ, List, [], ◌∷◌, ◌++◌, Option, Result, Ok, Err, codes}
 use Rattle.machine_text.specs.Packed.{Packed}
 use Rattle.cert.specs.Claim.{Claim, HaltsClaim, NeverClaim, NoClaim, Recorded}
-use Rattle.cert.specs.Reason.{Reason, CycleReason, TranslatedReason, BackwardReason, NgramReason, FarReason, ListedReason, CountedReason, NamedReason}
+use Rattle.cert.specs.Reason.{Reason, CycleReason, TranslatedReason, BackwardReason, NgramReason, FarReason, ListedReason, CountedReason, RulesReason, NamedReason}
 use Rattle.cert.specs.declared.record_fault.RecordFault.{RecordFault}
 use Rattle.cmd_lines.specs.Answer.{Answers, read_line}
 use Rattle.cmd_options.specs.declared.outcome.Outcome.{Outcome}
@@ -14,6 +14,7 @@ use Rattle.cmd_explain.specs.Halting.{TellsHalting}
 use Rattle.cmd_explain.specs.Named.{TellsNamed}
 use Rattle.cmd_explain.specs.Ngrams.{TellsNgram}
 use Rattle.cmd_explain.specs.Reduction.{TellsFar, TellsListed}
+use Rattle.cmd_explain.specs.Induction.{TellsRules}
 use Rattle.cmd_explain.specs.Shifting.{TellsTranslated}
 
 abbrev pub TellsReason : Reason → Packed → List ℕ → Type 0
@@ -24,6 +25,7 @@ TellsReason (NgramReason s) p words = TellsNgram p s words
 TellsReason (FarReason a) p words = TellsFar p a words
 TellsReason (ListedReason t) p words = TellsListed p t words
 TellsReason (CountedReason t) p words = TellsCounted p t words
+TellsReason (RulesReason t) p words = TellsRules p t words
 TellsReason (NamedReason e) p words = TellsNamed p words
 
 -- what is told of a claim: lines, each with its newline, and that what they say is so

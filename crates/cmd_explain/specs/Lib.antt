@@ -7,6 +7,7 @@ pub mod Backward
 pub mod Ngrams
 pub mod Reduction
 pub mod Counts
+pub mod Induction
 pub mod Named
 pub mod Explained
 pub mod Why

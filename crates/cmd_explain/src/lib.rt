@@ -13,6 +13,7 @@ mod named;
 mod ngrams;
 mod quantity;
 mod reduction;
+mod rules;
 mod shifting;
 mod sides;
 mod why;

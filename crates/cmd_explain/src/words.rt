@@ -17,6 +17,7 @@ use crate::halting::halting_words;
 use crate::named::named_words;
 use crate::ngrams::ngram_words;
 use crate::reduction::{far_words, listed_words};
+use crate::rules::rule_words;
 use crate::shifting::translated_words;
 use cert::{Certificate, Judged, Record};
 use kind_evidence::{NoMemory, Verdict};
@@ -38,6 +39,7 @@ pub(crate) fn record_words(alloc: Global, r: &Record, judged: &Judged) -> Result
         Certificate::Far(e) => far_words(alloc, &r.table, e),
         Certificate::Listed(e) => listed_words(alloc, &r.table, e),
         Certificate::Counted(e) => counted_words(alloc, &r.table, e),
+        Certificate::Rules(e) => rule_words(alloc, &r.table, e),
         Certificate::Named(_) => named_words(alloc, &r.table),
         Certificate::Undecided => String::from_str(alloc, "Nothing is claimed.\n"),
     }

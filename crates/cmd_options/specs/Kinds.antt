@@ -2,7 +2,7 @@
 use Rattle.std.specs.Prelude.{ℕ, List, ◌==◌, if◌then◌else◌, codes, []}
 
 abbrev pub kind_letters : List ℕ
-kind_letters = codes "HCTBNFAWPU"
+kind_letters = codes "HCTBNFAWRPU"
 
 -- the letter and the name of its kind, as HTML
 abbrev pub kind_label : ℕ → List ℕ
@@ -15,6 +15,7 @@ kind_label letter =
     else if letter == 70 then codes "<code>F</code> finite automata reduction (FAR)"
     else if letter == 65 then codes "<code>A</code> finite automata reduction, edges listed"
     else if letter == 87 then codes "<code>W</code> counted automata"
+    else if letter == 82 then codes "<code>R</code> rules with induction"
     else if letter == 80 then codes "<code>P</code> proof of its own"
     else if letter == 85 then codes "<code>U</code> holdout"
     else []

@@ -6,7 +6,7 @@ use crate::number::Number;
 use crate::ranged;
 
 /// The letters of the kinds, in the order in which a page has them (`kind_letters`).
-pub const LETTERS: &[u8] = b"HCTBNFAWPU";
+pub const LETTERS: &[u8] = b"HCTBNFAWRPU";
 
 /// What a page calls the kind of a letter, as HTML: the letter and a name. Nothing for another letter.
 pub fn kind_label(letter: u8) -> &'static [u8]
@@ -21,6 +21,7 @@ pub fn kind_label(letter: u8) -> &'static [u8]
         b'F' => b"<code>F</code> finite automata reduction (FAR)",
         b'A' => b"<code>A</code> finite automata reduction, edges listed",
         b'W' => b"<code>W</code> counted automata",
+        b'R' => b"<code>R</code> rules with induction",
         b'P' => b"<code>P</code> proof of its own",
         b'U' => b"<code>U</code> holdout",
         _ => b"",

@@ -32,6 +32,10 @@ const COUNTED: &[u8] =
     b"Two automata read the half tapes and count some of their transitions; what they read and count \
 is never that of a halt.";
 
+const RULES: &[u8] =
+    b"By rules between forms of tape, proved by steps or by induction, the run comes to the forms of a family \
+again and again.";
+
 const NAMED: &[u8] =
     b"One of eight tables of five states, for each of which there is a proof of its own.";
 
@@ -51,6 +55,7 @@ pub(crate) fn kind_words(letter: u8) -> &'static [u8]
         b'F' => FAR,
         b'A' => LISTED,
         b'W' => COUNTED,
+        b'R' => RULES,
         b'P' => NAMED,
         b'U' => HOLDOUT,
         _ => b"",

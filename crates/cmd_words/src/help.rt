@@ -379,6 +379,9 @@ A record is a table in the bbchallenge standard format, a space and a certificat
   W i j left right cosets
               two automata, one for each half tape, that count some of their transitions, i and j counts, together up
               to 52; and for each local configuration the coset in which the counts lie
+  R rules family first begin next loop
+              rules between forms of tape, each proved by a script of steps, equations and rules before it, or by
+              induction; and scripts by which the run comes to the forms of a family again and again; up to 49,152 bytes
   P           the table is one of eight of five states that have a proof of their own; of one of them, Skelet 1, the
               run is followed until it repeats, which takes half a minute and 80 megabytes
   U           nothing is claimed

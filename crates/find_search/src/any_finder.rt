@@ -118,6 +118,8 @@ fn finder_of<'a>(alloc: Global, letter: u8, search: &Search<'_>) -> Option<AnyFi
         // Without counts there are automata too, but 0 asks for none.
         b'W' if search.count == 0 => None,
         b'W' => Some(AnyFinder::Counted(CountedFinder::new(alloc, search.count))),
+        // Rules come from people's hands, or from other programs.
+        b'R' => None,
         // A hard search alone looks tables up: of one of them the check takes half a minute.
         b'P' => None,
         _ => None,

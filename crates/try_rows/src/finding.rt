@@ -172,6 +172,7 @@ fn say_short(alloc: Global, record: &OwnedRecord, said: &mut Said) -> Result<(),
             claim.append_fields(&mut fields)?;
             say_counts(&fields, said)
         }
+        Certificate::Rules(_) => said.text("R"),
         Certificate::Named(_) => said.text("P"),
         Certificate::Undecided => said.text("U"),
     }

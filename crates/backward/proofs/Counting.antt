@@ -1,16 +1,25 @@
 -- The numbers of paths while they are counted.
-use Rattle.std.proofs.Common.{◌≡◌, ℕ, zero, suc, ◌+◌, ◌-◌, ◌*◌, ◌<◌, ◌≤◌, List, length, get_or, set, Option, Some, None, inl, inr, sym, ◌∙◌, ap, refl, arith, get_or-set_other, get_or-set_same, length-set}
+use Rattle.std.proofs.Common.{◌≡◌, ℕ, zero, suc, ◌+◌, ◌-◌, ◌*◌, ◌<◌, ◌≤◌, List, length, get_or, set, Option, Some, None, ◌==◌, false, inl, inr, sym, subst, ◌∙◌, ap, refl, arith, get_or-set_other, get_or-set_same, length-set}
 use Rattle.std.proofs.lemmas.List.{set-set, set-get_or}
-use Rattle.std.proofs.lemmas.Bool.{cases_eq}
+use Rattle.std.proofs.lemmas.Bool.{cases_eq, ne_eqb}
 use Rattle.machine_text.specs.Packed.{Packed, entry_of}
 use Rattle.machine_text.specs.declared.transition.Sym.{Sym}
+use Rattle.machine_text.specs.declared.transition.Entry.{Entry}
 use Rattle.law_turing.specs.Backward.{Pair, Partial}
 use Rattle.law_turing.specs.Levels.{known_before}
 use Rattle.backward.specs.Limits.{path_limit}
 use Rattle.law_turing.proofs.BackwardLaws.{same_pair}
 use Rattle.backward.specs.inside.Known.{known_about, pair_at}
+use Rattle.backward.specs.inside.Chains.{next_of, target_at, IsFirst}
 use Rattle.backward.specs.inside.Counts.{paths_beyond, CountsOn, Exceeds}
 use Rattle.backward.proofs.Sums.{sum_first, sum_first-zero, sum_first-more, sum_first-le, if_known, if_known-none, if_known-some, sum_of_pairs}
+
+-- an entry that leads to another state
+leads_not : (needs : Partial) (q : Pair) (o : Option Entry) → (next_of o ≡ Some needs.state → ⊥) → known_before needs q o ≡ None
+leads_not needs q None other = refl
+leads_not needs q (Some e) other =
+    let no : (needs.state == e.next.0) ≡ false = ne_eqb needs.state e.next.0 (λ same. other (ap Some (sym same))) in
+    rw no refl
 
 -- what is known before a pair, by its place
 abbrev pub before_place : Packed → Partial → ℕ → Option Partial
@@ -57,6 +66,29 @@ part_passed p depth needs places old new none part = record {
   nearer = part.nearer;
   narrow = part.narrow;
 }
+
+-- pairs that lead elsewhere
+elsewhere : (p : Packed) (needs : Partial) (place : ℕ) → (target_at p place ≡ Some needs.state → ⊥) → before_place p needs place ≡ None
+unfolding target_at
+elsewhere p needs place other = leads_not needs (pair_at place) (entry_of p (pair_at place).state (pair_at place).symbol) other
+
+pub part_further : (p : Packed) (depth : ℕ) (needs : Partial) (places more : ℕ) (old new : List ℕ) → ((i : ℕ) → places ≤ i → i < places + more → target_at p i ≡ Some needs.state → ⊥) →
+    CountsPart p depth needs places old new → CountsPart p depth needs (places + more) old new
+part_further p depth needs places zero old new other part = subst (λ (i : ℕ). CountsPart p depth needs i old new) (let e : places ≡ places + 0 = omega arith in e) part
+part_further p depth needs places (suc more) old new other part =
+    let e : (places + more) + 1 ≡ places + suc more = omega arith in
+    subst (λ (i : ℕ). CountsPart p depth needs i old new) e
+    (part_passed p depth needs (places + more) old new (elsewhere p needs (places + more) (other (places + more) (omega arith) (omega arith)))
+    (part_further p depth needs places more old new (λ i low high. other i low (omega arith)) part))
+
+-- as far as the first pair that leads here
+pub part_first : (p : Packed) (depth : ℕ) (cells : List (Option Sym)) (state head places at : ℕ) (old new : List ℕ) → IsFirst p places state at →
+    CountsPart p depth (known_about cells state head) places old new → CountsPart p depth (known_about cells state head) at old new
+unfolding known_about
+part_first p depth cells state head places at old new first part =
+    let far : places + (at - places) ≡ at = omega (arith, first.low) in
+    subst (λ (i : ℕ). CountsPart p depth (known_about cells state head) i old new) far
+    (part_further p depth (known_about cells state head) places (at - places) old new (λ i low high. first.passed i low (omega arith)) part)
 
 -- a pair that comes before, with the paths that go further back
 pub part_more : (p : Packed) (depth : ℕ) (needs earlier : Partial) (places : ℕ) (old new newer : List ℕ) → before_place p needs places ≡ Some earlier → CountsPart p depth needs places old new →
@@ -166,11 +198,12 @@ exceeds_further p depth needs earlier places old new some place part over =
     }
 
 -- what can come before the cells about a head, by the parts of the pair
-pub at_place : (p : Packed) (cells now : List (Option Sym)) (state head place q : ℕ) (s : Sym) (o : Option Partial) → now ≡ cells → q ≡ (pair_at place).state → s ≡ (pair_at place).symbol →
-    known_before (known_about now state head) (record { state = q; symbol = s }) (entry_of p q s) ≡ o → before_place p (known_about cells state head) place ≡ o
-at_place p cells now state head place q s o same in_state on_symbol is =
+pub at_place : (p t : Packed) (cells now : List (Option Sym)) (state head place q : ℕ) (s : Sym) (o : Option Partial) → t ≡ p → now ≡ cells → q ≡ (pair_at place).state → s ≡ (pair_at place).symbol →
+    known_before (known_about now state head) (record { state = q; symbol = s }) (entry_of t q s) ≡ o → before_place p (known_about cells state head) place ≡ o
+at_place p t cells now state head place q s o table same in_state on_symbol is =
     ap (λ known. before_place p (known_about known state head) place) (sym same)
     ∙ ap (λ (r : Pair). known_before (known_about now state head) r (entry_of p r.state r.symbol)) (sym (same_pair (record { state = q; symbol = s }) (pair_at place) in_state on_symbol))
+    ∙ ap (λ (r : Packed). known_before (known_about now state head) (record { state = q; symbol = s }) (entry_of r q s)) (sym table)
     ∙ is
 
 -- the cells after one was known anew and then was as before

@@ -107,8 +107,8 @@ widths_exceed p places size counts none within same part over =
     }
 
 -- a pair and its entry by its parts
-pub entry_by : (p : Packed) (place q : ℕ) (s : Sym) → q ≡ (pair_at place).state → s ≡ (pair_at place).symbol → entry_of p q s ≡ entry_at p place
-entry_by p place q s state symbol = ap (λ r. entry_of p r s) state ∙ ap (entry_of p (pair_at place).state) symbol
+pub entry_by : (p t : Packed) (place q : ℕ) (s : Sym) → t ≡ p → q ≡ (pair_at place).state → s ≡ (pair_at place).symbol → entry_of t q s ≡ entry_at p place
+entry_by p t place q s table state symbol = ap (λ r. entry_of r q s) table ∙ ap (λ r. entry_of p r s) state ∙ ap (entry_of p (pair_at place).state) symbol
 
 pub standing_by : (cells : List (Option Sym)) (head place q : ℕ) (s : Sym) → q ≡ (pair_at place).state → s ≡ (pair_at place).symbol → head < length cells → ((x : ℕ) → x ≢ head → get_or cells x None ≡ None) →
     known_about (set cells head (Some s)) q head ≡ standing_on (pair_at place)

@@ -77,7 +77,9 @@ impl BackwardFinder {
             if found.is_some() {
                 return Ok(found);
             }
-            if self.paths.counts.last().is_some_and(|count| *count > paths) {
+            // Without a path of this depth there is none of a greater one.
+            let last = self.paths.counts.last();
+            if last.is_some_and(|count| *count == 0 || *count > paths) {
                 return Ok(None);
             }
         }

@@ -9,6 +9,7 @@
 #![tactic(auto)]
 
 mod backward;
+mod chains;
 mod finder;
 mod laws;
 mod limits;

@@ -5,6 +5,7 @@ ghost use Rattle.backward.specs.Limits.{depth_limit};
 ghost use Rattle.backward.specs.inside.Known.{known_about, HasRoom};
 ghost use Rattle.backward.specs.inside.Counts.{CountsOn, Exceeds, AreWidths, HasTooMany, Counted};
 
+use crate::chains::Chains;
 use crate::limits::MAX_PATHS;
 use crate::step_back::{pair_at, place_before};
 use crate::too_wide::TooWide;
@@ -12,8 +13,8 @@ use machine_text::{State, Sym, Table};
 use std::alloc::Global;
 use tape::NoMemory;
 
-// Depths to which the paths are counted first. Each path is followed to the last depth before the next one is
-// looked at, so a depth that is too wide would be found late.
+// Depths to which the paths are counted first, where half as far again is asked for. Each path is followed to the
+// last depth before the next one is looked at, so a depth that is too wide would be found late.
 const FIRST_DEPTHS: [u64; 4] = [16, 64, 256, 512];
 
 /// Counts the paths of a table, depth by depth. Its memory is kept for the next table.
@@ -42,48 +43,53 @@ impl PathCounter {
         ensures counted { IfOk result (λ counted. Counted table.now depth counted self.new.counts.items) }
         ensures table { IfOk result (λ _. IsTable table.now) }
     {
+        let chains = Chains::of(table);
         for first in FIRST_DEPTHS {
-            if first < depth && self.count_once(table, first)?.is_err() {
+            if first + first / 2 <= depth && self.count_once(&chains, first)?.is_err() {
                 return Ok(Err(TooWide));
             }
         }
-        self.count_once(table, depth)
+        self.count_once(&chains, depth)
     }
 
-    // Counts the paths of one depth, with no look at lesser depths first.
-    fn count_once(&mut self, table: &Table, depth: u64) -> Result<Result<(), TooWide>, NoMemory>
+    // Counts the paths of the depths up to one, with no look at lesser depths first.
+    fn count_once(&mut self, chains: &Chains, depth: u64) -> Result<Result<(), TooWide>, NoMemory>
         requires { depth ≤ depth_limit }
-        ensures counted { IfOk result (λ counted. Counted table.now depth counted self.new.counts.items) }
-        ensures table { IfOk result (λ _. IsTable table.now) }
+        ensures counted { IfOk result (λ counted. Counted chains.now depth counted self.new.counts.items) }
+        ensures table { IfOk result (λ _. IsTable chains.now) }
     {
         let depth = depth as usize;
         self.cells.clear();
         self.cells.resize(2 * depth + 1, None)?;
         self.counts.clear();
         self.counts.resize(depth + 1, 0)?;
-        Ok(count_all(table, &mut self.cells, &mut self.counts))
+        Ok(count_all(chains, &mut self.cells, &mut self.counts))
     }
 }
 
 // Counts all the paths of a table, as deep as there are counts, which are 0. No cell is known, and there are
 // as many on both sides of the middle one as there are depths below 0.
-fn count_all(table: &Table, cells: &mut [Option<Sym>], counts: &mut [u64]) -> Result<(), TooWide>
+fn count_all(
+    chains: &Chains,
+    cells: &mut [Option<Sym>],
+    counts: &mut [u64],
+) -> Result<(), TooWide>
     requires some { 0 < length counts.old }
     requires size { length cells.old + 1 ≡ 2 * length counts.old }
     requires unknown { (x : ℕ) → slice_index_or cells.old x None ≡ None }
     requires zeros { (k : ℕ) → slice_index counts.old k ≡ 0 }
-    ensures widths { OnOk result (AreWidths table.now counts.new) }
-    ensures wide { OnErr result (HasTooMany table.now (length counts.old)) }
-    ensures table { IsTable table.now }
+    ensures widths { OnOk result (AreWidths chains.now counts.new) }
+    ensures wide { OnErr result (HasTooMany chains.now (length counts.old)) }
+    ensures table { IsTable chains.now }
 {
     let head = counts.len() - 1;
-    for place in 0..2 * table.states() {
+    for place in 0..chains.places() {
         let pair = pair_at(place);
-        if table.get(pair.state, pair.symbol).is_some() {
+        if chains.table().get(pair.state, pair.symbol).is_some() {
             continue;
         }
         cells[head] = Some(pair.symbol);
-        count_on(table, cells, counts, 0, pair.state, head)?;
+        count_on(chains, cells, counts, 0, pair.state, head)?;
     }
     Ok(())
 }
@@ -91,7 +97,7 @@ fn count_all(table: &Table, cells: &mut [Option<Sym>], counts: &mut [u64]) -> Re
 // Counts a path that needs these cells about the head, and all the paths that go further back than it, each
 // at its depth. After `TooWide` neither the cells nor the counts are as they were.
 fn count_on(
-    table: &Table,
+    chains: &Chains,
     cells: &mut [Option<Sym>],
     counts: &mut [u64],
     depth: usize,
@@ -99,10 +105,11 @@ fn count_on(
     head: usize,
 ) -> Result<(), TooWide>
     requires depth { depth < length counts.old }
+    requires state { state.0 < chains.now.states }
     requires room { HasRoom (length cells.old) head (length counts.old - (depth + 1)) }
     ensures cells { OnOk result (cells.new ≡ cells.old) }
-    ensures counts { OnOk result (CountsOn table.now depth (known_about cells.old state.0 head) counts.old counts.new) }
-    ensures wide { OnErr result (Exceeds table.now depth (known_about cells.old state.0 head) counts.old) }
+    ensures counts { OnOk result (CountsOn chains.now depth (known_about cells.old state.0 head) counts.old counts.new) }
+    ensures wide { OnErr result (Exceeds chains.now depth (known_about cells.old state.0 head) counts.old) }
 {
     if counts[depth] >= MAX_PATHS {
         return Err(TooWide);
@@ -111,14 +118,16 @@ fn count_on(
     if depth + 1 == counts.len() {
         return Ok(());
     }
-    for place in 0..2 * table.states() {
+    let mut place = chains.first(state);
+    'places: while place < chains.places() {
         let pair = pair_at(place);
-        let Some(earlier) = place_before(pair, table, cells, state, head) else {
+        place = chains.next(place);
+        let Some(earlier) = place_before(pair, chains.table(), cells, state, head) else {
             continue;
         };
         let behind = cells[earlier];
         cells[earlier] = Some(pair.symbol);
-        count_on(table, cells, counts, depth + 1, pair.state, earlier)?;
+        count_on(chains, cells, counts, depth + 1, pair.state, earlier)?;
         cells[earlier] = behind;
     }
     Ok(())

@@ -5,8 +5,8 @@ use crate::step_back::pair_at;
 use machine_text::{MAX_STATES, State, Table};
 use std::marker::Model;
 
-// A table, and its pairs in chains: those whose entries lead to one state, in the order A0, A1, B0, and so on. So
-// what can come before a state is gone through without a look at the other pairs.
+/// A table, and its pairs in chains: those whose entries lead to one state, in the order A0, A1, B0, and so on. So
+/// what can come before a state is gone through without a look at the other pairs.
 #[derive(Drop)]
 pub(crate) struct Chains {
     table: Table,
@@ -30,7 +30,7 @@ impl Chains {
     ghost use Rattle.machine_text.specs.Packed.{IsTable};
     ghost use Rattle.backward.specs.inside.Chains.{IsFirst, target_at};
 
-    // The chains of a table.
+    /// The chains of a table.
     pub fn of(table: &Table) -> Chains
         ensures { result ≡ table.now }
     {
@@ -55,14 +55,14 @@ impl Chains {
         }
     }
 
-    // The table.
+    /// The table.
     pub fn table(&self) -> &Table
         ensures { result.now ≡ self.now }
     {
         &self.table
     }
 
-    // How many places there are.
+    /// How many places there are.
     pub fn places(&self) -> u8
         ensures places { result ≡ 2 * self.now.states }
         ensures table { IsTable self.now }
@@ -70,7 +70,7 @@ impl Chains {
         2 * self.table.states()
     }
 
-    // The first place whose pair leads to a state; the number of places where none does.
+    /// The first place whose pair leads to a state; the number of places where none does.
     pub fn first(&self, state: State) -> u8
         requires { state.0 < self.now.states }
         ensures { IsFirst self.now 0 state.0 result }
@@ -78,7 +78,7 @@ impl Chains {
         self.first[state.0 as usize]
     }
 
-    // The next place whose pair leads where that at a place does; the number of places where none does.
+    /// The next place whose pair leads where that at a place does; the number of places where none does.
     pub fn next(&self, place: u8) -> u8
         requires { place < 2 * self.now.states }
         ensures { (state : ℕ) → target_at self.now place ≡ Some state → IsFirst self.now (place + 1) state result }

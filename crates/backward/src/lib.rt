@@ -4,8 +4,9 @@
 //! halts. Where the run from the blank tape does d steps and there is no path of depth d, the table never
 //! halts. law_turing's `Backward` says so; `specs/` adds when there are more paths than may be gone through
 //! (`Paths`), how it is written in a record and what it means as a kind of certificates (`Kind`), and the limits as
-//! numbers (`Limits`). `specs/inside` is for the crate's own code: what a stretch of known cells tells of a configuration (`Known`), and how many paths go
-//! further back than one (`Counts`).
+//! numbers (`Limits`). `specs/inside` is for the crate's own code: what a stretch of known cells tells of a
+//! configuration (`Known`), which pairs lead to one state (`Chains`), and how many paths go further back than one
+//! (`Counts`).
 #![tactic(auto)]
 
 mod backward;

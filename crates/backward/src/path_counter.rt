@@ -69,11 +69,7 @@ impl PathCounter {
 
 // Counts all the paths of a table, as deep as there are counts, which are 0. No cell is known, and there are
 // as many on both sides of the middle one as there are depths below 0.
-fn count_all(
-    chains: &Chains,
-    cells: &mut [Option<Sym>],
-    counts: &mut [u64],
-) -> Result<(), TooWide>
+fn count_all(chains: &Chains, cells: &mut [Option<Sym>], counts: &mut [u64]) -> Result<(), TooWide>
     requires some { 0 < length counts.old }
     requires size { length cells.old + 1 ≡ 2 * length counts.old }
     requires unknown { (x : ℕ) → slice_index_or cells.old x None ≡ None }
@@ -108,7 +104,8 @@ fn count_on(
     requires state { state.0 < chains.now.states }
     requires room { HasRoom (length cells.old) head (length counts.old - (depth + 1)) }
     ensures cells { OnOk result (cells.new ≡ cells.old) }
-    ensures counts { OnOk result (CountsOn chains.now depth (known_about cells.old state.0 head) counts.old counts.new) }
+    ensures counts { OnOk result
+        (CountsOn chains.now depth (known_about cells.old state.0 head) counts.old counts.new) }
     ensures wide { OnErr result (Exceeds chains.now depth (known_about cells.old state.0 head) counts.old) }
 {
     if counts[depth] >= MAX_PATHS {

@@ -1,12 +1,14 @@
 -- A text is read entry by entry: where each entry fits and each bar stands, no place is faulty, and else one is.
-use Rattle.std.proofs.Common.{◌≡◌, ◌≢◌, ℕ, ◌+◌, ◌-◌, ◌*◌, ◌/◌, ◌%◌, ◌<◌, ◌&&◌, Bool, true, false, cond, eqb, List, [], length, get_or, Some, None, refl, sym, ap, ◌∙◌, inl, inr, arith}
-use Rattle.std.proofs.lemmas.Bool.{cases_lt}
+use Rattle.std.proofs.Common.{◌≡◌, ◌≢◌, ℕ, ◌+◌, ◌-◌, ◌*◌, ◌/◌, ◌%◌, ◌<◌, ◌≤◌, ◌&&◌, Bool, true, false, cond, eqb, List, [], length, length-set, get_or, set, Some, None, refl, sym, ap, subst, ◌∙◌, inl, inr, arith, get_or-set_same, get_or-set_other}
+use Rattle.std.proofs.lemmas.Bool.{cases_eq, cases_lt}
 use Rattle.std.proofs.lemmas.Bool.Decides.{nat_tests}
 use Rattle.machine_text.specs.declared.faults.TextFault.{TextFault}
 use Rattle.machine_text.specs.declared.faults.TextFault.TheVariants.{BadBar, BadSymbol, BadDir, BadState}
+use Rattle.machine_text.specs.Limits.{state_limit}
 use Rattle.machine_text.specs.Packed.{code_of}
 use Rattle.machine_text.specs.Text.{may_begin, may_direct, may_end, unless, fault_at, faults_of, entry_named}
-use Rattle.machine_text.specs.inside.{code_at, entry_place, entry_fits}
+use Rattle.machine_text.specs.inside.{code_at, entry_fits}
+use Rattle.machine_text.proofs.Rows.{entry_place}
 use Rattle.machine_text.proofs.Ranges.{found_nowhere, nowhere_found}
 
 fits_of : (b : Bool) (f : TextFault) → unless b f ≡ None → b ≡ true
@@ -101,15 +103,10 @@ module _ (n : ℕ) (text : List ℕ) where
         at_bar i is_bar ∙ rw (bars i (omega arith) is_bar) refl
   ])
 
-  -- an entry that doesn't fit, or a place of a bar without one, is a fault
+  -- a place of a bar without one is a fault, and an entry that doesn't fit has one
   clean_at : faults_of n text ≡ [] → (i : ℕ) → i < length text → Clean i
   unfolding faults_of
   clean_at none i below = nowhere_found (fault_at n text) 0 (length text) none i (omega arith) (omega arith)
-
-  pub faulty_entry : (k : ℕ) → entry_place k + 2 < length text → entry_fits n text (entry_place k) ≡ false → faults_of n text ≢ []
-  faulty_entry k within misfit none =
-      let fits = fits_where_clean k (clean_at none (entry_place k) (omega arith)) (clean_at none (entry_place k + 1) (omega arith)) (clean_at none (entry_place k + 2) within) in
-      absurd (let e : true ≡ false = sym fits ∙ misfit in cc)
 
   pub faulty_bar : (i : ℕ) → i < length text → i % 7 ≡ 6 → get_or text i 0 ≢ 95 → faults_of n text ≢ []
   faulty_bar i within bar other none =
@@ -117,11 +114,48 @@ module _ (n : ℕ) (text : List ℕ) where
       other (grind (arith, nat_tests))
 
   -- what is read at a place
-  pub code_at_none : (i : ℕ) → code_at n text i ≡ None → entry_fits n text i ≡ false
+  code_at_none : (i : ℕ) → code_at n text i ≡ None → entry_fits n text i ≡ false
   code_at_none i none = elim (entry_fits n text i) as (λ b. cond b (Some (code_of (entry_named n text i))) None ≡ None → b ≡ false) [ true ↦ λ e. absurd cc | false ↦ λ _. refl ] none
 
-  pub code_at_some : (i code : ℕ) → code_at n text i ≡ Some code → (entry_fits n text i ≡ true) × (code ≡ code_of (entry_named n text i))
+  pub faulty_entry : (k place : ℕ) → place ≡ entry_place k → place + 2 < length text → code_at n text place ≡ None → faults_of n text ≢ []
+  faulty_entry k place at within unread none =
+      let fits = fits_where_clean k (clean_at none (entry_place k) (omega arith)) (clean_at none (entry_place k + 1) (omega arith)) (clean_at none (entry_place k + 2) (omega arith)) in
+      let misfit = code_at_none (entry_place k) (ap (code_at n text) (sym at) ∙ unread) in
+      absurd (let e : true ≡ false = sym fits ∙ misfit in cc)
+
+  code_at_some : (i code : ℕ) → code_at n text i ≡ Some code → (entry_fits n text i ≡ true) × (code ≡ code_of (entry_named n text i))
   code_at_some i code some = elim (entry_fits n text i) as (λ b. cond b (Some (code_of (entry_named n text i))) None ≡ Some code → (b ≡ true) × (code ≡ code_of (entry_named n text i))) [
     | true ↦ λ e. (refl, cc)
     | false ↦ λ e. absurd cc
   ] some
+
+  -- the codes of the first k entries are read, the others are as they were
+  pub record AreRead (k : ℕ) (codes : List ℕ) : Type 0 where
+    pub size : length codes ≡ 2 * state_limit
+    pub clean : AreClean k
+    pub written : (j : ℕ) → j < k → get_or codes j 0 ≡ code_of (entry_named n text (entry_place j))
+    pub others : (j : ℕ) → k ≤ j → get_or codes j 0 ≡ 0
+
+  pub one_more_read : (k place code : ℕ) (codes : List ℕ) → place ≡ entry_place k → k < 2 * state_limit → code_at n text place ≡ Some code
+      → AreRead k codes → AreRead (k + 1) (set codes k code)
+  one_more_read k place code codes at within some kept =
+      let read = code_at_some (entry_place k) code (ap (code_at n text) (sym at) ∙ some) in
+      record {
+        size = length-set codes k code ∙ kept.size;
+        clean = one_more_clean k kept.clean read.0;
+        written = λ j below. elim (cases_eq j k) [
+          | inl here ↦ rw here (get_or-set_same codes k code 0 (omega (arith, kept.size)) ∙ read.1)
+          | inr other ↦ get_or-set_other codes k j code 0 other ∙ kept.written j (omega arith)
+        ];
+        others = λ j past. get_or-set_other codes k j code 0 (λ e. omega arith) ∙ kept.others j (omega arith);
+      }
+
+  -- a row more
+  pub row_read : (row first second : ℕ) (codes : List ℕ) → row < state_limit → code_at n text (7 * row) ≡ Some first → code_at n text (7 * row + 3) ≡ Some second
+      → AreRead (2 * row) codes → AreRead (2 * (row + 1)) (set (set codes (2 * row) first) (2 * row + 1) second)
+  row_read row first second codes within one two kept =
+      let even : 7 * row ≡ entry_place (2 * row) = omega arith in
+      let odd : 7 * row + 3 ≡ entry_place (2 * row + 1) = omega arith in
+      let both : 2 * row + 1 + 1 ≡ 2 * (row + 1) = omega arith in
+      subst (λ (k : ℕ). AreRead k (set (set codes (2 * row) first) (2 * row + 1) second)) both
+      (one_more_read (2 * row + 1) (7 * row + 3) second (set codes (2 * row) first) odd (omega arith) two (one_more_read (2 * row) (7 * row) first codes even (omega arith) one kept))

@@ -13,6 +13,10 @@ use Rattle.machine_text.proofs.Tables.{symbol_number-symbol_of}
 use Rattle.machine_text.specs.Text.{entry_text, row_text, text_of}
 use Rattle.machine_text.specs.inside.{entry_byte, byte_at}
 
+-- the place in a text of the entry at a place among the codes
+abbrev pub entry_place : ℕ → ℕ
+entry_place k = 7 * (k / 2) + 3 * (k % 2)
+
 pub length-entry_text : (o : Option Entry) → length (entry_text o) ≡ 3
 length-entry_text None = refl
 length-entry_text (Some e) = refl

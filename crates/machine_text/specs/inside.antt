@@ -1,5 +1,5 @@
 -- What only the code needs: the text of a table byte by byte as it is written, and entry by entry as it is read.
-use Rattle.std.specs.Prelude.{ℕ, ◌+◌, ◌*◌, ◌/◌, ◌%◌, ◌==◌, ◌&&◌, Bool, if◌then◌else◌, List, Option, Some, None, slice_index, slice_set}
+use Rattle.std.specs.Prelude.{ℕ, ◌+◌, ◌/◌, ◌%◌, ◌==◌, ◌&&◌, Bool, if◌then◌else◌, List, Option, Some, None, slice_index, slice_set}
 use Rattle.machine_text.specs.declared.transition.Entry.{Entry}
 use Rattle.machine_text.specs.Packed.{Packed, symbol_of, code_of, entry_of}
 use Rattle.machine_text.specs.Text.{symbol_byte, direction_byte, may_begin, may_direct, may_end, entry_named}
@@ -16,10 +16,6 @@ unfoldable pub byte_at : Packed → ℕ → ℕ
 byte_at p i =
     if i % 7 == 6 then 95
     else entry_byte (entry_of p (i / 7) (symbol_of (i % 7 / 3))) (i % 7 % 3)
-
--- the place in a text of the entry at a place among the codes
-abbrev pub entry_place : ℕ → ℕ
-entry_place k = 7 * (k / 2) + 3 * (k % 2)
 
 -- bytes with those of an entry from a place on
 abbrev pub with_entry_bytes : List ℕ → ℕ → Option Entry → List ℕ

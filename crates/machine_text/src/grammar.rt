@@ -2,7 +2,7 @@
 ghost use Rattle.std.specs.Prelude.{◌≡◌, ◌≢◌, ℕ, ◌+◌, ◌*◌, ◌%◌, ◌^◌, ◌<◌, ◌≤◌, true, false, [], ◌∷◌, List, length, slice_index, IfSome, IfNone};
 ghost use Rattle.machine_text.specs.declared.faults.TextFault.{TextFault as Fault};
 ghost use Rattle.machine_text.specs.Text.{is_table_length, states_in, fault_at, faults_of, entry_named, table_named, may_begin, may_direct, may_end, is_state_letter, symbol_byte, direction_byte};
-ghost use Rattle.machine_text.specs.inside.{code_at, entry_place, with_entry_bytes};
+ghost use Rattle.machine_text.specs.inside.{code_at, with_entry_bytes};
 ghost use Rattle.std.specs.Option.{ForSome};
 ghost use Rattle.machine_text.specs.Limits.{state_limit, text_byte_limit};
 
@@ -37,8 +37,9 @@ pub(crate) fn codes_named(states: u8, text: &[u8]) -> Option<[Code; MAX_ENTRIES]
         return None;
     }
     let mut codes = [Code::UNDEFINED; MAX_ENTRIES];
-    for k in 0..2 * states as usize {
-        codes[k] = code_at(states, text, entry_place(k))?;
+    for row in 0..states as usize {
+        codes[2 * row] = code_at(states, text, 7 * row)?;
+        codes[2 * row + 1] = code_at(states, text, 7 * row + 3)?;
     }
     Some(codes)
 }
@@ -174,15 +175,6 @@ fn entry_named(states: u8, text: &[u8], place: usize) -> Option<Entry>
         },
         next: State(letter - b'A'),
     })
-}
-
-/// The place in a text of the entry at a place among the codes.
-#[inline]
-pub(crate) fn entry_place(code: usize) -> usize
-    requires { code < 2 ^ 32 }
-    ensures { result ≡ entry_place code }
-{
-    7 * (code / 2) + 3 * (code % 2)
 }
 
 /// Writes the three bytes of an entry from a place on.

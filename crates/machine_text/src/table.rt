@@ -128,8 +128,9 @@ impl Table {
         ensures parses { table_of result.now ≡ Ok self.now }
     {
         buf.fill(b'_');
-        for k in 0..2 * self.states as usize {
-            grammar::put_entry(self.codes[k].entry(), grammar::entry_place(k), buf);
+        for row in 0..self.states as usize {
+            grammar::put_entry(self.codes[2 * row].entry(), 7 * row, buf);
+            grammar::put_entry(self.codes[2 * row + 1].entry(), 7 * row + 3, buf);
         }
         &buf[..7 * self.states as usize - 1]
     }

@@ -23,4 +23,5 @@ pub record IsFirst (p : Packed) (from state place : ℕ) : Type 0 where
 -- the first of each state's places from one on, and for each of them the next one of the same state
 pub record AreChains (p : Packed) (from : ℕ) (first next : List ℕ) : Type 0 where
   pub begins : (state : ℕ) → state < state_limit → IsFirst p from state (slice_index first state)
-  pub goes_on : (i state : ℕ) → from ≤ i → i < 2 * p.states → target_at p i ≡ Some state → IsFirst p (i + 1) state (slice_index next i)
+  pub goes_on : (i state : ℕ) → from ≤ i → i < 2 * p.states → target_at p i ≡ Some state
+      → IsFirst p (i + 1) state (slice_index next i)

@@ -1,32 +1,25 @@
-use Rattle.std.proofs.Common.{◌≡◌, ◌*◌, ◌<◌, ap, ◌∙◌, get_or, arith}
+use Rattle.std.proofs.Common.{◌≡◌, ℕ, ◌+◌, ◌*◌, ◌<◌, ap, ◌∙◌, get_or, arith}
 use Rattle.std.proofs.lemmas.List.{get_or_default}
 use Rattle.machine_text.specs.Limits.{state_limit}
 use Rattle.machine_text.specs.Packed.{Packed, coded_entry}
-use Rattle.machine_text.specs.inside.{entry_place, with_entry_bytes}
-use Rattle.machine_text.proofs.Written.{length-with_entry_bytes, next_bars, next_written, text_written}
+use Rattle.machine_text.proofs.Written.{row_written, text_written}
 use Rattle.machine_text.proofs.RoundTrip.{table_of-text_of, no_halting_letter}
 use Rattle.machine_text.proofs.table.Table.text.Goals as goal
 
-pub loop-k-preserved : goal.loop-k-preserved
-loop-k-preserved c =
-    let buf = c.loop-k.buf in
-    let k = c.loop-k.k in
-    let within : k < 2 * state_limit = omega (arith, c.loop-k-test.true, c.self.invariant.limit) in
-    let code : get_or c.self.inside.codes k c.index-self-k.result ≡ get_or c.args.self.now.codes k 0 =
-    get_or_default c.self.inside.codes k c.index-self-k.result 0 (omega (arith, c.self.invariant.size)) ∙ ap (λ (t : Packed). get_or t.codes k 0) c.self.view_is in
-    let same = c.put_entry.ensures ∙ ap (λ i. with_entry_bytes buf i c.entry.result) c.entry_place.ensures
-    ∙ ap (with_entry_bytes buf (entry_place k)) (c.entry.ensures ∙ ap coded_entry code) in
-    rw same (record {
-      size = length-with_entry_bytes buf (entry_place k) _ ∙ c.loop-k.invariant.size;
-      bars = next_bars c.args.self.now buf k c.loop-k.invariant.size within c.loop-k.invariant.bars;
-      written = next_written c.args.self.now buf k c.loop-k.invariant.size within c.loop-k.invariant.written;
-    })
+pub loop-row-preserved : goal.loop-row-preserved
+loop-row-preserved c =
+    let row = c.loop-row.row in
+    let codes = c.self.inside.codes in
+    let within : row < state_limit = omega (arith, c.loop-row-test.true, c.self.invariant.limit) in
+    let code : (k other : ℕ) → k < 2 * state_limit → coded_entry (get_or codes k other) ≡ coded_entry (get_or c.args.self.now.codes k 0) = λ k other below.
+    ap coded_entry (get_or_default codes k other 0 (omega (arith, c.self.invariant.size)) ∙ ap (λ (t : Packed). get_or t.codes k 0) c.self.view_is) in
+    rw (c.put_entry-in-loop-row.ensures, c.put_entry.ensures) (row_written c.args.self.now row _ _ c.loop-row.buf within
+    (c.entry.ensures ∙ code (2 * row) _ (omega arith)) (c.entry-in-loop-row.ensures ∙ code (2 * row + 1) _ (omega arith)) c.loop-row.invariant)
 
 -- the bytes that were written are those of the text
 pub returns-clause-text : goal.returns-clause-text
 returns-clause-text c =
-    rw (← c.self.view_is) (text_written _ c.loop-k.buf c.self.invariant c.loop-k.invariant.size c.loop-k.invariant.bars (λ j beside below.
-    rw c.self.view_is (c.loop-k.invariant.written j beside (omega arith))))
+    rw (← c.self.view_is) (text_written _ (2 * c.loop-row.row) c.loop-row.buf c.self.invariant (omega (arith, c.loop-row-test.false)) (rw c.self.view_is c.loop-row.invariant))
 
 pub returns-clause-no_halting_letter : goal.returns-clause-no_halting_letter
 returns-clause-no_halting_letter c = rw (returns-clause-text c) (rw (← c.self.view_is) (no_halting_letter _ c.self.invariant))

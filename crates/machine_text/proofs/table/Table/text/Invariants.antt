@@ -1,12 +1,7 @@
-use Rattle.std.proofs.Common.{◌≡◌, length}
-use Rattle.machine_text.specs.Limits.{text_byte_limit}
-use Rattle.machine_text.proofs.Written.{BarsStand, AreWritten}
+use Rattle.std.proofs.Common.{◌*◌}
+use Rattle.machine_text.proofs.Written.{AreWritten}
 use Rattle.machine_text.proofs.table.Table.text.Given as goal
 
--- the bars stand, and so do the bytes of the entries before k
-abbrev pub invariant-loop-k : goal.invariant-loop-k
-invariant-loop-k l = record {
-  size : length l.buf ≡ text_byte_limit;
-  bars : BarsStand l.buf;
-  written : AreWritten l.self l.k l.buf;
-}
+-- the bars stand, and so do the bytes of the rows before this one
+abbrev pub invariant-loop-row : goal.invariant-loop-row
+invariant-loop-row l = AreWritten l.self (2 * l.row) l.buf

@@ -1,10 +1,11 @@
 """What `bb check` has to answer, written anew from docs/FORMATS.md: no code of the program's is used or looked at.
 
 Slow and plain on purpose: tapes are dictionaries, sets of paths are listed. `answer` gives None for a claim that would
-take too long to judge here. Counted automata stand in counts.py.
+take too long to judge here. Counted automata stand in counts.py, rules with induction in forms.py.
 """
 from counts import counted, counts_of
 from faults import Refused
+from forms import induction
 
 STEPS = 2_000
 PATHS = 65_536
@@ -417,7 +418,7 @@ def read_claim(rows, parts):
     if not parts:
         raise Refused("302")
     kind, fields = parts[0], parts[1:]
-    counts = {b"H": (1, 2), b"C": (2,), b"T": (3,), b"B": (1,), b"N": (4,), b"F": (5,), b"A": (5,), b"W": (5,), b"P": (0,), b"U": (0,)}
+    counts = {b"H": (1, 2), b"C": (2,), b"T": (3,), b"B": (1,), b"N": (4,), b"F": (5,), b"A": (5,), b"W": (5,), b"R": (6,), b"P": (0,), b"U": (0,)}
     if len(fields) not in counts.get(kind, ()):
         raise Refused("302")
     if kind == b"H":
@@ -445,6 +446,8 @@ def read_claim(rows, parts):
     if kind == b"W":
         numbers = counts_of(*fields[:2])
         return lambda: counted(rows, numbers, *fields[2:])
+    if kind == b"R":
+        return lambda: induction(rows, *fields)
     if kind == b"P":
         return lambda: named(rows)
     return lambda: "undecided"

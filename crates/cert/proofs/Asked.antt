@@ -1,25 +1,33 @@
 -- Finders that are asked in turn.
-use Rattle.std.proofs.Common.{◌≡◌, ℕ, suc, ◌+◌, ◌<◌, ◌≤◌, List, Option, Some, None, length, drop, set, get_or, refl, sym, ap, subst, ◌∙◌, inl, inr, arith}
+use Rattle.std.proofs.Common.{◌≡◌, ℕ, suc, ◌+◌, ◌<◌, ◌≤◌, List, Option, Some, None, IsSome, length, drop, set, get_or, refl, sym, ap, subst, ◌∙◌, inl, inr, arith}
 use Rattle.std.proofs.lemmas.List.{drop-set-lt, drop_all}
 use Rattle.std.proofs.Math.Seq.{drop-cons}
-use Rattle.std.specs.Prelude.{MatchOption}
 use Rattle.machine_text.specs.Packed.{Packed}
-use Rattle.cert.specs.Claim.{Claim, NoClaim}
-use Rattle.cert.specs.Kinds.{owned_claim, owned_recorded}
-use Rattle.cert.specs.declared.deciding.Decided.{Decided}
-use Rattle.cert.specs.Certified.{IsShownBy}
-use Rattle.cert.specs.Asking.{ShowsVerdict, Answered}
+use Rattle.kind_evidence.specs.declared.verdicts.Ending.TheVariants.{Never}
+use Rattle.kind_evidence.specs.declared.verdicts.Verdict.TheVariants.{Never as NeverHalts}
+use Rattle.cert.specs.Claim.{Claim, HaltsClaim, NeverClaim, NoClaim, ending_by, shown_by}
+use Rattle.cert.specs.Certified.{IsPairOf}
+use Rattle.cert.specs.Kinds.{owned_claim}
+use Rattle.cert.specs.declared.decided.Decided.{Decided}
+use Rattle.cert.specs.Asking.{ShowsVerdict, ComesOfClaim, Answered}
 
--- what comes of one finder
-abbrev OfOne : Packed → Option Claim → Option Decided → Type 0
-OfOne p given o = MatchOption o (ShowsVerdict p given → ⊥) (λ d. (d.record.table ≡ p) × IsShownBy (owned_recorded d.record) d.judged
-    × ShowsVerdict p given × (given ≡ Some (owned_claim d.record.certificate)))
+pub one_taken : (p : Packed) (given : Option Claim) (o : Option Decided) (d : Decided) → o ≡ Some d → ComesOfClaim p given o → ShowsVerdict p given × (given ≡ Some (owned_claim d.record.certificate))
+one_taken p given o d is one = let made = subst (ComesOfClaim p given) is one in (subst (ShowsVerdict p) (sym made.1) made.0.2, made.1)
 
-pub one_taken : (p : Packed) (given : Option Claim) (o : Option Decided) (d : Decided) → o ≡ Some d → OfOne p given o → ShowsVerdict p given × (given ≡ Some (owned_claim d.record.certificate))
-one_taken p given o d is one = let made = subst (OfOne p given) is one in (made.2, made.3)
+pub one_left : (p : Packed) (given : Option Claim) (o : Option Decided) → o ≡ None → ComesOfClaim p given o → ShowsVerdict p given → ⊥
+one_left p given o is one = subst (ComesOfClaim p given) is one
 
-pub one_left : (p : Packed) (given : Option Claim) (o : Option Decided) → o ≡ None → OfOne p given o → ShowsVerdict p given → ⊥
-one_left p given o is one = subst (OfOne p given) is one
+-- a claim that a table never halts, where it is certified
+pub never_shown : (p : Packed) (claim : Claim) → ending_by claim ≡ Some Never → Some NeverHalts ≡ shown_by claim p
+never_shown p (HaltsClaim e) is = cc
+never_shown p (NeverClaim r) is = refl
+never_shown p NoClaim is = cc
+
+pub never_paired : (p : Packed) (claim : Claim) → ending_by claim ≡ Some Never → IsPairOf (ending_by claim) p None
+never_paired p claim is = subst (λ o. IsPairOf o p None) (sym is) refl
+
+pub never_said : (claim : Claim) → ending_by claim ≡ Some Never → IsSome (ending_by claim)
+never_said claim is = subst (λ o. IsSome o) (sym is) refl
 
 module _ {F : Type 0} (gives : F → Option Claim → Type 0) (p : Packed) where
   -- so many were asked, and the answer of the others is that of all

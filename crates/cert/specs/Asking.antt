@@ -1,13 +1,25 @@
 -- What comes of asking finders in their order.
-use Rattle.std.specs.Prelude.{◌≡◌, ◌⊎◌, List, [], ◌∷◌, Option, Some, None, IsSome}
+use Rattle.std.specs.Prelude.{◌≡◌, ◌⊎◌, List, [], ◌∷◌, Option, Some, None, IsSome, MatchOption}
 use Rattle.machine_text.specs.Packed.{Packed}
 use Rattle.cert.specs.Claim.{Claim, NoClaim, ending_by}
-use Rattle.cert.specs.Certified.{IsCertified}
+use Rattle.cert.specs.Certified.{IsCertified, IsShownBy}
+use Rattle.cert.specs.Kinds.{owned_claim, owned_recorded}
+use Rattle.cert.specs.declared.decided.Decided.{Decided}
 
 -- what a finder gives for a table is taken: a claim that says something and is certified
 abbrev pub ShowsVerdict : Packed → Option Claim → Type 0
 ShowsVerdict p None = ⊥
 ShowsVerdict p (Some c) = IsSome (ending_by c) × IsCertified (record { table = p; claim = c })
+
+-- a record of a table that says something and is certified, with what it shows
+abbrev pub IsShownRecord : Packed → Decided → Type 0
+IsShownRecord p d = (d.record.table ≡ p) × IsShownBy (owned_recorded d.record) d.judged
+    × ShowsVerdict p (Some (owned_claim d.record.certificate))
+
+-- what comes of what is given: a record of it, if it is taken
+abbrev pub ComesOfClaim : Packed → Option Claim → Option Decided → Type 0
+ComesOfClaim p given o = MatchOption o (ShowsVerdict p given → ⊥)
+    (λ d. IsShownRecord p d × (given ≡ Some (owned_claim d.record.certificate)))
 
 -- finders are asked in turn, each gives a claim or none, and the first that is taken is the answer; where none
 -- is, nothing is claimed

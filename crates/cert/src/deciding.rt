@@ -1,44 +1,17 @@
 // From finders to a record that is certified.
-ghost use Rattle.std.specs.Prelude.{◌≡◌, Option, Some, IfOk, MatchOption};
-ghost use Rattle.cert.specs.Asking.{Answered, ShowsVerdict};
+ghost use Rattle.std.specs.Prelude.{◌≡◌, IfOk};
+ghost use Rattle.cert.specs.Asking.{Answered};
 ghost use Rattle.cert.specs.Certified.{IsCertified, IsShownBy};
-ghost use Rattle.cert.specs.Claim.{Claim};
 ghost use Rattle.cert.specs.Kinds.{owned_claim, owned_recorded};
-ghost use Rattle.cert.specs.Scored.{with_score};
 
 use crate::certificate::OwnedCertificate;
+use crate::decided::Decided;
 use crate::finder::Finder;
-use crate::judgement::{Judged, judge_on};
-use crate::record::{OwnedRecord, Record};
-use kind_evidence::{NoMemory, Refused};
+use crate::judgement::Judged;
+use crate::record::OwnedRecord;
+use kind_evidence::NoMemory;
 use machine_text::Table;
 use std::alloc::Global;
-
-/// A record that is certified, with what its certificate shows of the table.
-#[derive(Drop)]
-pub struct Decided {
-    /// The record.
-    pub record: OwnedRecord,
-    /// What it shows: who takes the record needn't judge it again.
-    pub judged: Judged,
-}
-
-impl Decided {
-    /// Gives the record its table's score, where it says that the table halts: nothing is run.
-    pub fn scored(self) -> Decided
-        requires { IsShownBy (owned_recorded self.record) self.judged }
-        ensures record { owned_recorded result.record ≡ with_score (owned_recorded self.record) }
-        ensures shown { IsShownBy (owned_recorded result.record) result.judged }
-    {
-        Decided {
-            record: OwnedRecord {
-                table: self.record.table,
-                certificate: self.record.certificate.with_score(self.judged.verdict),
-            },
-            judged: self.judged,
-        }
-    }
-}
 
 /// A record of the table with the first certificate that stands of those that the finders give, asked in
 /// their order; undecided where none does. Each certificate is judged, whatever finder gave it, and none
@@ -72,7 +45,7 @@ pub fn decide_judged<F: Finder>(
         (owned_claim d.record.certificate)) }
 {
     for finder in finders.iter_mut() {
-        if let Some(decided) = taken(alloc, finder, t, budget)? {
+        if let Some(decided) = finder.find_shown(alloc, t, budget)? {
             return Ok(decided);
         }
     }
@@ -86,51 +59,6 @@ pub fn decide_judged<F: Finder>(
             halts_on: None,
         },
     })
-}
-
-// What a finder gives for a table, judged, if it claims something and stands.
-fn taken<F: Finder>(
-    alloc: Global,
-    finder: &mut F,
-    t: &Table,
-    budget: u64,
-) -> Result<Option<Decided>, NoMemory>
-    ensures { IfOk result (λ o. (given : Option Claim) × F.gives finder.old t.now budget given
-        × MatchOption o (ShowsVerdict t.now given → ⊥) (λ d. (d.record.table ≡ t.now)
-        × IsShownBy (owned_recorded d.record) d.judged
-        × ShowsVerdict t.now given × (given ≡ Some (owned_claim d.record.certificate)))) }
-{
-    match finder.find(t, budget)? {
-        Some(certificate) => {
-            let record = OwnedRecord {
-                table: *t,
-                certificate,
-            };
-            match judged_of(alloc, &record)? {
-                Some(judged) => Ok(Some(Decided { record, judged })),
-                None => Ok(None),
-            }
-        }
-        None => Ok(None),
-    }
-}
-
-// What a record shows, if it claims something and that stands.
-fn judged_of(alloc: Global, r: &OwnedRecord) -> Result<Option<Judged>, NoMemory>
-    ensures { IfOk result (λ o. MatchOption o (ShowsVerdict r.now.table (Some (owned_claim r.now.certificate)) → ⊥)
-        (λ judged. IsShownBy (owned_recorded r.now) judged
-        × ShowsVerdict r.now.table (Some (owned_claim r.now.certificate)))) }
-{
-    // The parts by their names: the borrow checker's proof has to know of what the record is made.
-    let record = Record {
-        table: r.table,
-        certificate: r.certificate.lent(),
-    };
-    match judge_on(alloc, &record) {
-        Ok(judged) => Ok(judged.verdict.is_some().then_some(judged)),
-        Err(Refused::NoMemory) => Err(NoMemory),
-        Err(_) => Ok(None),
-    }
 }
 
 /// Answers a table by a record of it that is certified, or undecided.

@@ -1,5 +1,6 @@
 // Finders: what looks for certificates.
 use crate::certificate::OwnedCertificate;
+use crate::decided::Decided;
 use backward::BackwardFinder;
 use far::FarFinder;
 use kind_evidence::NoMemory;
@@ -7,11 +8,13 @@ use loops::{CycleFinder, TranslatedFinder};
 use machine_text::Table;
 use ngram_cps::NgramFinder;
 use run::HaltFinder;
+use std::alloc::Global;
 
-/// Looks for a certificate for a table. What it gives need not stand: whoever asks a finder judges it.
+/// Looks for a certificate for a table. What `find` gives need not stand; what `find_shown` gives was judged.
 pub trait Finder: Drop {
     ghost use Rattle.std.specs.Prelude.{ℕ, ⊤, Option, IfOk, option_map};
     ghost use Rattle.machine_text.specs.Packed.{Packed};
+    ghost use Rattle.cert.specs.Asking.{ComesOfClaim};
     ghost use Rattle.cert.specs.Claim.{Claim};
     ghost use Rattle.cert.specs.Kinds.{owned_claim};
 
@@ -22,6 +25,23 @@ pub trait Finder: Drop {
     /// After `NoMemory` it can be asked again.
     fn find(&mut self, t: &Table, budget: u64) -> Result<Option<OwnedCertificate>, NoMemory>
         ensures { IfOk result (λ o. gives self.old t.now budget (option_map owned_claim o)) };
+
+    /// What comes of what it may give for the table: a record that is certified and what it shows, if that claims something
+    /// and stands. A finder that has shown what it finds needn't have it judged again.
+    fn find_shown(
+        &mut self,
+        alloc: Global,
+        t: &Table,
+        budget: u64,
+    ) -> Result<Option<Decided>, NoMemory>
+        ensures { IfOk result (λ o. (given : Option Claim) × gives self.old t.now budget given
+            × ComesOfClaim t.now given o) }
+    {
+        match self.find(t, budget)? {
+            Some(certificate) => Decided::by(alloc, t, certificate),
+            None => Ok(None),
+        }
+    }
 }
 
 // Finders of several kinds stand boxed in one list.
@@ -30,6 +50,15 @@ impl Finder for Box<dyn Finder> {
 
     fn find(&mut self, t: &Table, budget: u64) -> Result<Option<OwnedCertificate>, NoMemory> {
         (**self).find(t, budget)
+    }
+
+    fn find_shown(
+        &mut self,
+        alloc: Global,
+        t: &Table,
+        budget: u64,
+    ) -> Result<Option<Decided>, NoMemory> {
+        (**self).find_shown(alloc, t, budget)
     }
 }
 

@@ -11,6 +11,7 @@
 
 mod appending;
 mod certificate;
+mod decided;
 mod deciding;
 mod finder;
 mod judgement;
@@ -22,7 +23,8 @@ mod scoring;
 
 pub use appending::append_table;
 pub use certificate::{Certificate, OwnedCertificate};
-pub use deciding::{Decided, Decider, Finders, decide, decide_judged};
+pub use decided::Decided;
+pub use deciding::{Decider, Finders, decide, decide_judged};
 pub use finder::Finder;
 pub use judgement::{Judged, judge, judge_on};
 pub use kind_evidence::NoMemory;

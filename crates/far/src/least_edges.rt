@@ -55,6 +55,7 @@ impl LeastEdges {
             delta,
             rows: halting_rows(table, size),
         };
+        edges.go_ahead();
         edges.grow();
         edges
     }
@@ -71,7 +72,34 @@ impl LeastEdges {
         )
     }
 
-    // Adds all the edges that are asked for. Each pass adds one at least, until there are no more.
+    // Adds the edges for all entries that move ahead, which ask for no others.
+    fn go_ahead(&mut self)
+        ensures { self.new ≡ self.old }
+    {
+        for pair in 0..2 * self.table.states() {
+            self.go_ahead_at(State(pair / 2), symbol_of(pair as usize % 2));
+        }
+    }
+
+    // Adds those of one pair of the table: the first automaton reads the written symbol.
+    fn go_ahead_at(&mut self, state: State, read: Sym)
+        requires { state.0 < self.old.states }
+        ensures { self.new ≡ self.old }
+    {
+        let Some(entry) = self.table.get(state, read) else {
+            return;
+        };
+        if entry.dir != self.side {
+            return;
+        }
+        for q in 0..self.size {
+            let to = self.delta[2 * q as usize + entry.write as usize];
+            let set = 1 << self.number(to, entry.next);
+            self.add(self.place(q, state, read), set);
+        }
+    }
+
+    // Adds all the edges that entries ask for which move back. Each pass adds one at least, until there are no more.
     fn grow(&mut self)
         ensures { self.new ≡ self.old }
     {
@@ -82,56 +110,42 @@ impl LeastEdges {
         }
     }
 
-    // Adds the edges that are asked for by what is there, and says whether there were any.
+    // Adds those that are asked for by what is there, and says whether there were any.
     fn grow_once(&mut self) -> bool
         ensures { self.new ≡ self.old }
     {
         let mut grew = false;
-        for number in 0..2 * self.size {
-            if self.grow_by(number) {
-                grew = true;
-            }
-        }
-        grew
-    }
-
-    // Adds the edges that one transition of the first automaton asks for.
-    fn grow_by(&mut self, number: u8) -> bool
-        requires { number < 2 * self.old.size }
-        ensures { self.new ≡ self.old }
-    {
-        let step = Move {
-            from: number / 2,
-            read: symbol_of(number as usize % 2),
-            to: self.delta[number as usize],
-        };
-        let mut grew = false;
         for pair in 0..2 * self.table.states() {
-            if self.grow_at(step, State(pair / 2), symbol_of(pair as usize % 2)) {
+            if self.grow_at(State(pair / 2), symbol_of(pair as usize % 2)) {
                 grew = true;
             }
         }
         grew
     }
 
-    // Adds the edges that a transition asks for with one pair of the table.
-    fn grow_at(&mut self, step: Move, state: State, read: Sym) -> bool
-        requires from { step.from < self.old.size }
-        requires to { step.to < self.old.size }
-        requires state { state.0 < self.old.states }
+    // Adds those of one pair of the table, for each transition of the first automaton.
+    fn grow_at(&mut self, state: State, read: Sym) -> bool
+        requires { state.0 < self.old.states }
         ensures { self.new ≡ self.old }
     {
         let Some(entry) = self.table.get(state, read) else {
             return false;
         };
-        if entry.dir != self.side {
-            return self.grow_back(step, state, read, entry);
-        }
-        if entry.write != step.read {
+        if entry.dir == self.side {
             return false;
         }
-        let set = 1 << self.number(step.to, entry.next);
-        self.add(self.place(step.from, state, read), set)
+        let mut grew = false;
+        for number in 0..2 * self.size {
+            let step = Move {
+                from: number / 2,
+                read: symbol_of(number as usize % 2),
+                to: self.delta[number as usize],
+            };
+            if self.grow_back(step, state, read, entry) {
+                grew = true;
+            }
+        }
+        grew
     }
 
     // The head moves back: the second automaton reads what the first had read last, and then the written symbol.

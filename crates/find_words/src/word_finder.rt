@@ -1,12 +1,13 @@
 // The finder: a first automaton made of words, tried on both sides.
 ghost use Rattle.std.specs.Prelude.{◌≡◌, ◌<◌, ◌≤◌, ℕ, slice_index, IfOk, IfSome};
+ghost use Rattle.cert.specs.Asking.{IsShownRecord};
 ghost use Rattle.far.specs.Limits.{listed_size_limit};
 ghost use Rattle.find_words.specs.Findings.{AreFoundOf};
 
 use crate::closing::{Closing, Reduction};
 use crate::stages::{WORD_STAGES, WordStage};
 use crate::writing::append_numbers;
-use cert::{Finder, OwnedCertificate};
+use cert::{Decided, Finder, OwnedCertificate};
 use far::{Listed, OwnedFar, OwnedListed};
 use find_automata::{Automaton, MAX_MOVES};
 use kind_evidence::NoMemory;
@@ -36,6 +37,23 @@ impl FoundAutomata {
                 OwnedCertificate::Listed(Box::new(alloc, automata)?)
             }
         })
+    }
+
+    /// The record of a table for which they were found: that has shown that they stand, and nothing is judged.
+    pub fn into_decided(self, alloc: Global, t: &Table) -> Result<Decided, NoMemory>
+        requires { AreFoundOf t.now self }
+        ensures { IfOk result (IsShownRecord t.now) }
+    {
+        // The proof needs that the texts are within their limits.
+        match &self {
+            FoundAutomata::Far(automata) => {
+                let _ = automata.lent().states();
+            }
+            FoundAutomata::Listed(automata) => {
+                let _ = automata.lent().states();
+            }
+        }
+        Ok(Decided::never(t, self.into_certificate(alloc)?))
     }
 }
 
@@ -189,6 +207,18 @@ impl Finder for WordFinder {
     fn find(&mut self, t: &Table, _budget: u64) -> Result<Option<OwnedCertificate>, NoMemory> {
         match self.search(t)? {
             Some(found) => Ok(Some(found.into_certificate(self.alloc)?)),
+            None => Ok(None),
+        }
+    }
+
+    fn find_shown(
+        &mut self,
+        alloc: Global,
+        t: &Table,
+        _budget: u64,
+    ) -> Result<Option<Decided>, NoMemory> {
+        match self.search(t)? {
+            Some(found) => Ok(Some(found.into_decided(alloc, t)?)),
             None => Ok(None),
         }
     }

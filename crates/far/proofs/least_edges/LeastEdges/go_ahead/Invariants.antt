@@ -1,5 +1,5 @@
 use Rattle.std.proofs.Common.{◌≡◌}
-use Rattle.far.proofs.least_edges.LeastEdges.grow_by.Given as goal
+use Rattle.far.proofs.least_edges.LeastEdges.go_ahead.Given as goal
 
 abbrev pub invariant-loop-pair : goal.invariant-loop-pair
 invariant-loop-pair l = l.self ≡ l.fn.self

@@ -3,7 +3,7 @@ use Rattle.cert.specs.Certified.{IsShownBy}
 use Rattle.cert.specs.Claim.{Claim}
 use Rattle.cert.specs.Kinds.{owned_recorded}
 use Rattle.cert.proofs.Scores.{score_shown}
-use Rattle.cert.proofs.deciding.Decided.scored.Goals as goal
+use Rattle.cert.proofs.decided.Decided.scored.Goals as goal
 
 pub returns-clause-shown : goal.returns-clause-shown
 returns-clause-shown c =

@@ -18,8 +18,8 @@ pub fn rule_words(alloc: Global, t: &Table, e: &Rules) -> Result<String, NoMemor
         alloc,
         "Rules with induction: each says that the run comes from one form of tape, with words that stand as often as \
          variables say, to another one, and is proved by steps of the table, by the rules before it, or by induction.\n\
-         By them the run comes from the blank tape to a form of the family, and from each form of the family, in a step \
-         or more, to another one.\nSo it never halts.\n",
+         By them the run comes from the blank tape to a form of the family, and from each form of the family, in a \
+         step or more, to another one.\nSo it never halts.\n",
     )?;
     Ok(words)
 }

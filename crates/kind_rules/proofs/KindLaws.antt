@@ -10,14 +10,14 @@ use Rattle.text.proofs.Spaced.{and_field, no_fields, length-spaced}
 use Rattle.kind_evidence.specs.Kind.{IsKind, room_for_fields}
 use Rattle.kind_evidence.proofs.Letters.{is_letter}
 use Rattle.kind_rules.specs.Limits.{rules_byte_limit}
-use Rattle.kind_rules.specs.RuleTexts.{RuleTexts, are_high, all_high, given_by, bytes_of, certificate_in, AreRuleTexts}
+use Rattle.kind_rules.specs.RuleTexts.{RuleTexts, are_high, all_high, given_by, rule_bytes, certificate_in, AreRuleTexts}
 use Rattle.kind_rules.specs.Fields.{rules_by, rule_texts_by, rule_fields}
 use Rattle.kind_rules.specs.Kind.{rules_kind}
 
 texts_back : (t : RuleTexts) → AreRuleTexts t → rules_by t ≡ Ok t
 texts_back t are =
     let short = are.within.short in
-    let fits : ltb rules_byte_limit (bytes_of t) ≡ false = grind (arith, nat_tests, short) in
+    let fits : ltb rules_byte_limit (rule_bytes t) ≡ false = grind (arith, nat_tests, short) in
     let given : is_some (given_by t) ≡ true = are.given in
     rw (fits, given) refl
 

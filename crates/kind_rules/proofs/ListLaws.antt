@@ -9,9 +9,9 @@ use Rattle.kind_rules.specs.declared.stop.Stop.TheVariants.{Fails, NoMemory}
 use Rattle.kind_rules.specs.declared.unpacked.ProvedRule.{ProvedRule}
 use Rattle.law_induction.specs.Forms.{Form}
 use Rattle.law_induction.specs.Equations.{◌>>=◌}
-use Rattle.law_induction.specs.Scripts.{rule_at, stepped, steps_done}
+use Rattle.law_induction.specs.Scripts.{rule_at, form_stepped, steps_done}
 use Rattle.law_induction.specs.Rules.{forms_of, is_proved_by, are_proved}
-use Rattle.kind_rules.specs.Answers.{Answers, Shows}
+use Rattle.kind_rules.specs.Answers.{Yields, Meets}
 use Rattle.kind_rules.specs.Views.{rule_in, proved_in}
 
 -- a rule by its number
@@ -27,14 +27,14 @@ rule_missing (y ∷ xs) zero past = absurd (let p : suc (length xs) ≤ zero = p
 rule_missing (y ∷ xs) (suc k) past = rule_missing xs k (omega arith)
 
 -- steps, one after another
-pub steps_step : (m : Machine) (n i : ℕ) (f g : Form) (whole : Option Form) → i < n → stepped m f ≡ Some g → steps_done m (n - i) f ≡ whole →
+pub steps_step : (m : Machine) (n i : ℕ) (f g : Form) (whole : Option Form) → i < n → form_stepped m f ≡ Some g → steps_done m (n - i) f ≡ whole →
     steps_done m (n - (i + 1)) g ≡ whole
 unfolding steps_done
 steps_step m n i f g whole below one is =
     let k : n - i ≡ suc (n - (i + 1)) = omega arith in
     sym (ap (λ o. o >>= steps_done m (n - (i + 1))) one) ∙ sym (ap (λ x. steps_done m x f) k) ∙ is
 
-pub steps_fail : (m : Machine) (n i : ℕ) (f : Form) (whole : Option Form) → i < n → stepped m f ≡ None → steps_done m (n - i) f ≡ whole → whole ≡ None
+pub steps_fail : (m : Machine) (n i : ℕ) (f : Form) (whole : Option Form) → i < n → form_stepped m f ≡ None → steps_done m (n - i) f ≡ whole → whole ≡ None
 unfolding steps_done
 steps_fail m n i f whole below none is =
     let k : n - i ≡ suc (n - (i + 1)) = omega arith in
@@ -80,22 +80,22 @@ proved_fail m xs k x whole below is one before =
 
 -- the exit of a `?`
 answers_on : {A C B D : Type 0} (view : A → B) (other : C → D) (said : Option B) (whole : Option D) (e : Stop) → (said ≡ None → whole ≡ None) →
-    Answers view said (Err e) → Answers other whole (Err e)
+    Yields view said (Err e) → Yields other whole (Err e)
 answers_on view other said whole Fails on is = on is
 answers_on view other said whole NoMemory on is = tt
 
 pub answers_as : {A C B D : Type 0} (view : A → B) (other : C → D) (said : Option B) (whole : Option D) (e : Stop) (result : Result C Stop) →
-    IsErrAnd result (λ r. r ≡ e) → (said ≡ None → whole ≡ None) → Answers view said (Err e) → Answers other whole result
+    IsErrAnd result (λ r. r ≡ e) → (said ≡ None → whole ≡ None) → Yields view said (Err e) → Yields other whole result
 answers_as view other said whole e result refused on is =
     let (r, err, same) = err_from_is_err_and result refused in
-    subst (Answers other whole) (sym err) (subst (λ r. Answers other whole (Err r)) (sym same) (answers_on view other said whole e on is))
+    subst (Yields other whole) (sym err) (subst (λ r. Yields other whole (Err r)) (sym same) (answers_on view other said whole e on is))
 
-shows_on : (said whole : Bool) (e : Stop) → (said ≡ false → whole ≡ false) → Shows said (Err e) → Shows whole (Err e)
+shows_on : (said whole : Bool) (e : Stop) → (said ≡ false → whole ≡ false) → Meets said (Err e) → Meets whole (Err e)
 shows_on said whole Fails on is = on is
 shows_on said whole NoMemory on is = tt
 
 pub shows_as : (said whole : Bool) (e : Stop) (result : Result (Unit {0}) Stop) →
-    IsErrAnd result (λ r. r ≡ e) → (said ≡ false → whole ≡ false) → Shows said (Err e) → Shows whole result
+    IsErrAnd result (λ r. r ≡ e) → (said ≡ false → whole ≡ false) → Meets said (Err e) → Meets whole result
 shows_as said whole e result refused on is =
     let (r, err, same) = err_from_is_err_and result refused in
-    subst (Shows whole) (sym err) (subst (λ r. Shows whole (Err r)) (sym same) (shows_on said whole e on is))
+    subst (Meets whole) (sym err) (subst (λ r. Meets whole (Err r)) (sym same) (shows_on said whole e on is))

@@ -3,12 +3,12 @@ use Rattle.std.specs.Prelude.{ℕ, nat_lt, if◌then◌else◌, is_some, List, [
 use Rattle.text.specs.declared.fields.FieldFault.{FieldFault}
 use Rattle.text.specs.declared.fields.FieldFault.TheVariants.{BadKind, BadList, TooLong}
 use Rattle.kind_rules.specs.Limits.{rules_byte_limit}
-use Rattle.kind_rules.specs.RuleTexts.{RuleTexts, rule_texts, bytes_of, given_by}
+use Rattle.kind_rules.specs.RuleTexts.{RuleTexts, rule_texts, rule_bytes, given_by}
 
 -- six texts: how long they are together is judged before any of them
 abbrev pub rules_by : RuleTexts → Result RuleTexts FieldFault
 rules_by t =
-    if nat_lt rules_byte_limit (bytes_of t) then Err TooLong
+    if nat_lt rules_byte_limit (rule_bytes t) then Err TooLong
     else if is_some (given_by t) then Ok t
     else Err BadList
 

@@ -3,7 +3,7 @@ use Rattle.std.specs.Prelude.{◌≡◌, codes}
 use Rattle.machine_text.specs.Packed.{entry_of}
 use Rattle.law_induction.proofs.CertificateLaws.{certificate_never}
 use Rattle.kind_evidence.specs.Kind.{Kind}
-use Rattle.kind_rules.specs.RuleTexts.{RuleTexts, AreRuleTexts, AreWithinLimits, AreRulesOf}
+use Rattle.kind_rules.specs.RuleTexts.{RuleTexts, AreRuleTexts, AreWithinRuleLimits, AreRulesOf}
 use Rattle.kind_rules.specs.Fields.{rule_texts_by, rule_fields}
 
 -- the texts give a certificate of the table; to judge it takes memory
@@ -15,7 +15,7 @@ rules_kind = record {
   meaning = λ t. record {
     writable = AreRuleTexts t;
     made_for = λ n. t.states ≡ n;
-    within = AreWithinLimits t;
+    within = AreWithinRuleLimits t;
     wide = λ p. ⊥;
     stands = λ p. AreRulesOf t p;
     takes_memory = Unit {0};

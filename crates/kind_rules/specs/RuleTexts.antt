@@ -46,7 +46,9 @@ are_high (b ∷ text) = nat_le 44 b && are_high text
 
 unfoldable pub all_high : RuleTexts → Bool
 all_high t =
-    are_high t.rules && (are_high t.family && (are_high t.first && (are_high t.begin && (are_high t.next && are_high t.loop))))
+    are_high t.rules
+    && (are_high t.family
+    && (are_high t.first && (are_high t.begin && (are_high t.next && are_high t.loop))))
 
 -- the certificate that the texts give
 unfoldable pub certificate_in : RuleTexts → Option Certificate
@@ -61,20 +63,20 @@ unfoldable pub given_by : RuleTexts → Option Certificate
 given_by t = if all_high t then certificate_in t else None
 
 -- how many bytes they are together, with the spaces between them
-abbrev pub bytes_of : RuleTexts → ℕ
-bytes_of t =
+abbrev pub rule_bytes : RuleTexts → ℕ
+rule_bytes t =
     length t.rules + length t.family + length t.first + length t.begin + length t.next + length t.loop + 5
 
 -- the texts are within the limits
-pub record AreWithinLimits (t : RuleTexts) : Type 0 where
-  pub short : bytes_of t ≤ rules_byte_limit
+pub record AreWithinRuleLimits (t : RuleTexts) : Type 0 where
+  pub short : rule_bytes t ≤ rules_byte_limit
   pub made : 1 ≤ t.states
   pub few : t.states ≤ state_limit
 
 -- and give a certificate
 pub record AreRuleTexts (t : RuleTexts) : Type 0 where
   pub given : IsTrue (is_some (given_by t))
-  pub within : AreWithinLimits t
+  pub within : AreWithinRuleLimits t
 
 -- the table has as many states as they were made for, and the texts are those of a certificate of it
 pub record AreRulesOf (t : RuleTexts) (p : Packed) : Type 0 where

@@ -6,22 +6,22 @@ use Rattle.machine_text.specs.declared.transition.Dir.{Dir}
 use Rattle.machine_text.specs.declared.transition.Dir.TheVariants.{L, R}
 use Rattle.text.specs.Decimal.{decimal_value}
 use Rattle.text.specs.Parts.{parts_of}
-use Rattle.law_induction.specs.declared.block.Times.{Times}
-use Rattle.law_induction.specs.declared.block.Four.{Four}
+use Rattle.law_induction.specs.declared.block.Exponent.{Exponent}
+use Rattle.law_induction.specs.declared.block.Exponents.{Exponents}
 use Rattle.law_induction.specs.declared.block.Block.{Block}
 use Rattle.law_induction.specs.declared.equation.Equation.{Equation}
 use Rattle.law_induction.specs.declared.equation.Equation.TheVariants.{Split, Spell, Roll, Power, Empty, Blank}
 use Rattle.law_induction.specs.declared.moves.Move.{Move}
 use Rattle.law_induction.specs.declared.moves.Move.TheVariants.{Steps, Turn, Use, Again, Forth, Back}
-use Rattle.law_induction.specs.Words.{number_limit, times_of, times_eq, never_once, once, block_of}
-use Rattle.law_induction.specs.Forms.{Form, form_of, RuleForm}
+use Rattle.law_induction.specs.Words.{exponent_limit, times_with, times_eq, never_once, one_time, block_of}
+use Rattle.law_induction.specs.Forms.{Form, form_with, RuleForm}
 use Rattle.law_induction.specs.Equations.{◌>>=◌}
 use Rattle.law_induction.specs.Rules.{Proved}
 use Rattle.kind_rules.specs.Limits.{symbol_weight_limit}
 
 -- a number that isn't too large, and one that isn't 0 either
 unfoldable pub number_from : List ℕ → Option ℕ
-number_from text = decimal_value text >>= λ n. if nat_le n number_limit then Some n else None
+number_from text = decimal_value text >>= λ n. if nat_le n exponent_limit then Some n else None
 
 unfoldable pub factor_from : List ℕ → Option ℕ
 factor_from text = number_from text >>= λ n. if n == 0 then None else Some n
@@ -52,18 +52,18 @@ factored (text ∷ (factor ∷ [])) = factor_from factor >>= λ k. Some (record 
 factored (text ∷ (factor ∷ (more ∷ parts))) = None
 
 -- an exponent: a number, and the letters of the variables with their factors, in their order
-unfoldable pub times_from : List ℕ → Option Times
-times_from text =
+unfoldable pub exponent_from : List ℕ → Option Exponent
+exponent_from text =
     factored (parts_of 100 text) >>= λ d. factored (parts_of 99 d.before) >>= λ c.
     factored (parts_of 98 c.before) >>= λ b. factored (parts_of 97 b.before) >>= λ a.
-    number_from a.before >>= λ n. Some (times_of n a.factor b.factor c.factor d.factor)
+    number_from a.before >>= λ n. Some (times_with n a.factor b.factor c.factor d.factor)
 
 -- a block: a word, and behind `^` its exponent, unless it is once
 abbrev pub block_of_parts : List (List ℕ) → Option Block
 block_of_parts [] = None
-block_of_parts (word ∷ []) = word_from word >>= λ w. Some (block_of w once)
+block_of_parts (word ∷ []) = word_from word >>= λ w. Some (block_of w one_time)
 block_of_parts (word ∷ (times ∷ [])) =
-    word_from word >>= λ w. times_from times >>= λ t. if times_eq t once then None else Some (block_of w t)
+    word_from word >>= λ w. exponent_from times >>= λ t. if times_eq t one_time then None else Some (block_of w t)
 block_of_parts (word ∷ (times ∷ (more ∷ parts))) = None
 
 unfoldable pub block_from : List ℕ → Option Block
@@ -78,8 +78,8 @@ unfoldable pub half_from : List ℕ → Option (List Block)
 half_from text = if length text == 0 then Some [] else blocks_from (parts_of 46 text)
 
 -- the table's state that a letter names, and the half tape that a bracket points to
-unfoldable pub state_from : ℕ → ℕ → Option ℕ
-state_from states b = if nat_lt (b - 65) states then Some (b - 65) else None
+unfoldable pub form_state_from : ℕ → ℕ → Option ℕ
+form_state_from states b = if nat_lt (b - 65) states then Some (b - 65) else None
 
 abbrev pub heading_from : ℕ → Option Dir
 heading_from b = if b == 60 then Some L else if b == 62 then Some R else None
@@ -88,9 +88,9 @@ heading_from b = if b == 60 then Some L else if b == 62 then Some R else None
 -- byte from `A` to `Z`
 unfoldable pub form_at : ℕ → List ℕ → ℕ → Option Form
 form_at states text at =
-    half_from (take at text) >>= λ left. state_from states (slice_index text at) >>= λ state.
+    half_from (take at text) >>= λ left. form_state_from states (slice_index text at) >>= λ state.
     heading_from (slice_index text (at + 1)) >>= λ heading. half_from (drop (at + 2) text) >>= λ right.
-    Some (form_of left state heading right)
+    Some (form_with left state heading right)
 
 abbrev pub is_capital : ℕ → Bool
 is_capital b = nat_le 65 b && nat_le b 90
@@ -99,24 +99,25 @@ unfoldable pub form_from : ℕ → List ℕ → Option Form
 form_from states text = position is_capital text >>= λ at. form_at states text at
 
 -- the next exponent of some, which is 0 where none is left, and those behind it
-abbrev pub next_times : List (List ℕ) → Option Times
+abbrev pub next_times : List (List ℕ) → Option Exponent
 next_times [] = Some never_once
-next_times (part ∷ parts) = times_from part
+next_times (part ∷ parts) = exponent_from part
 
-abbrev pub behind : List (List ℕ) → List (List ℕ)
-behind [] = []
-behind (part ∷ parts) = parts
+abbrev pub parts_behind : List (List ℕ) → List (List ℕ)
+parts_behind [] = []
+parts_behind (part ∷ parts) = parts
 
 abbrev pub if_none : {A : Type 0} → List (List ℕ) → A → Option A
 if_none [] x = Some x
 if_none (part ∷ parts) x = None
 
 -- exponents in place of the variables, at most four
-unfoldable pub four_from : List (List ℕ) → Option Four
+unfoldable pub four_from : List (List ℕ) → Option Exponents
 four_from parts =
-    next_times parts >>= λ a. next_times (behind parts) >>= λ b. next_times (behind (behind parts)) >>= λ c.
-    next_times (behind (behind (behind parts))) >>= λ d.
-    if_none (behind (behind (behind (behind parts)))) (record { a = a; b = b; c = c; d = d })
+    next_times parts >>= λ a. next_times (parts_behind parts) >>= λ b.
+    next_times (parts_behind (parts_behind parts)) >>= λ c.
+    next_times (parts_behind (parts_behind (parts_behind parts))) >>= λ d.
+    if_none (parts_behind (parts_behind (parts_behind (parts_behind parts)))) (record { a = a; b = b; c = c; d = d })
 
 -- the use of a rule: its number and the exponents; and of the rule that is being proved, with exponents for b, c and d
 abbrev pub use_from : List (List ℕ) → Option Move
@@ -127,14 +128,15 @@ abbrev pub again_from : List (List ℕ) → Option Move
 again_from [] = None
 again_from (nothing ∷ parts) =
     if length nothing == 0 then
-    (next_times parts >>= λ b. next_times (behind parts) >>= λ c. next_times (behind (behind parts)) >>= λ d.
-    if_none (behind (behind (behind parts))) (Again b c d))
+    (next_times parts >>= λ b. next_times (parts_behind parts) >>= λ c.
+    next_times (parts_behind (parts_behind parts)) >>= λ d.
+    if_none (parts_behind (parts_behind (parts_behind parts))) (Again b c d))
     else None
 
 -- equations, by their small letters: 115 is `s`, 119 `w`, 114 `r`, 112 `p`, 101 `e`, 98 `b`
 abbrev pub split_from : List (List ℕ) → Option Equation
 split_from (word ∷ (first ∷ (second ∷ []))) =
-    word_from word >>= λ w. times_from first >>= λ e. times_from second >>= λ f. Some (Split w e f)
+    word_from word >>= λ w. exponent_from first >>= λ e. exponent_from second >>= λ f. Some (Split w e f)
 split_from parts = None
 
 abbrev pub spell_from : List (List ℕ) → Option Equation
@@ -143,13 +145,13 @@ spell_from parts = None
 
 abbrev pub roll_from : List (List ℕ) → Option Equation
 roll_from (over ∷ (word ∷ (other ∷ (times ∷ [])))) =
-    word_from over >>= λ u. word_from word >>= λ w. word_from other >>= λ v. times_from times >>= λ e.
+    word_from over >>= λ u. word_from word >>= λ w. word_from other >>= λ v. exponent_from times >>= λ e.
     Some (Roll u w v e)
 roll_from parts = None
 
 abbrev pub power_from : List (List ℕ) → Option Equation
 power_from (long ∷ (word ∷ (copies ∷ (times ∷ [])))) =
-    word_from long >>= λ v. word_from word >>= λ w. number_from copies >>= λ k. times_from times >>= λ e.
+    word_from long >>= λ v. word_from word >>= λ w. number_from copies >>= λ k. exponent_from times >>= λ e.
     Some (Power v w k e)
 power_from parts = None
 
@@ -158,7 +160,7 @@ empty_from (word ∷ []) = word_from word >>= λ w. Some (Empty w)
 empty_from parts = None
 
 abbrev pub blank_from : List (List ℕ) → Option Equation
-blank_from (word ∷ (times ∷ [])) = word_from word >>= λ w. times_from times >>= λ e. Some (Blank w e)
+blank_from (word ∷ (times ∷ [])) = word_from word >>= λ w. exponent_from times >>= λ e. Some (Blank w e)
 blank_from parts = None
 
 unfoldable pub equation_from : ℕ → List (List ℕ) → Option Equation
@@ -194,12 +196,12 @@ move_by letter rest text =
     else if letter == 114 then change_from R (parts_of 46 rest)
     else (number_from text >>= λ n. Some (Steps n))
 
-unfoldable pub move_from : List ℕ → Option Move
-move_from text = if length text == 0 then None else move_by (slice_index text 0) (drop 1 text) text
+unfoldable pub move_named : List ℕ → Option Move
+move_named text = if length text == 0 then None else move_by (slice_index text 0) (drop 1 text) text
 
 abbrev pub moves_from : List (List ℕ) → Option (List Move)
 moves_from [] = Some []
-moves_from (part ∷ parts) = move_from part >>= λ move. moves_from parts >>= λ moves. Some (move ∷ moves)
+moves_from (part ∷ parts) = move_named part >>= λ move. moves_from parts >>= λ moves. Some (move ∷ moves)
 
 -- a script: its moves with commas between them; nothing for none
 unfoldable pub script_from : List ℕ → Option (List Move)
@@ -210,11 +212,11 @@ abbrev pub end_from : ℕ → Option Bool
 end_from b = if b == 111 then Some true else if b == 98 then Some false else None
 
 -- a rule with its proof: one script, or two for a proof by induction
-pub record Ends : Type 0 where
+pub record RuleEnds : Type 0 where
   pub open_left : Bool
   pub open_right : Bool
 
-unfoldable pub ends_from : List ℕ → Option Ends
+unfoldable pub ends_from : List ℕ → Option RuleEnds
 ends_from text =
     if length text == 2 then
     (end_from (slice_index text 0) >>= λ left. end_from (slice_index text 1) >>= λ right.

@@ -10,17 +10,17 @@ use Rattle.kind_rules.specs.declared.unpacked.Unpacked.{Unpacked}
 use Rattle.kind_rules.specs.declared.setting.Setting.{Setting as SettingIn}
 use Rattle.kind_rules.specs.declared.number_text.Factor.{Factor}
 use Rattle.kind_rules.specs.declared.rule_text.OpenEnds.{OpenEnds}
-use Rattle.law_induction.specs.Forms.{Form, form_of, RuleForm}
+use Rattle.law_induction.specs.Forms.{Form, form_with, RuleForm}
 use Rattle.law_induction.specs.Equations.{Sides, sides_of}
 use Rattle.law_induction.specs.Scripts.{Setting}
 use Rattle.law_induction.specs.Rules.{Proved, Certificate, forms_of}
-use Rattle.kind_rules.specs.Texts.{Factored, Ends}
+use Rattle.kind_rules.specs.Texts.{Factored, RuleEnds}
 
 abbrev pub form_in : FormIn → Form
-form_in f = form_of f.left.items f.state f.heading f.right.items
+form_in f = form_with f.left.items f.state f.heading f.right.items
 
 abbrev pub queues_in : Queues → Form
-queues_in f = form_of f.left.items f.state f.heading f.right.items
+queues_in f = form_with f.left.items f.state f.heading f.right.items
 
 abbrev pub rule_in : Rule → RuleForm
 rule_in r = record { open_left = r.open_left; open_right = r.open_right; from = form_in r.from; to = form_in r.to }
@@ -53,5 +53,5 @@ setting_in s = record {
 abbrev pub factored_of : Factor → Factored
 factored_of f = record { before = f.before.now; factor = f.factor }
 
-abbrev pub ends_of : OpenEnds → Ends
+abbrev pub ends_of : OpenEnds → RuleEnds
 ends_of e = record { open_left = e.left; open_right = e.right }

@@ -4,7 +4,7 @@ ghost use Rattle.law_induction.specs.Scripts.{same_side};
 
 use crate::rows::{are_same, instance};
 use crate::stop::Stop;
-use law_induction::{Block, Four};
+use law_induction::{Block, Exponents};
 use machine_text::Dir;
 use std::alloc::{AllocError as NoMemory, Global};
 
@@ -39,10 +39,10 @@ pub(crate) fn same_side(a: Dir, b: Dir) -> bool
 impl Form {
     ghost use Rattle.std.specs.Prelude.{IfOk};
     ghost use Rattle.law_induction.specs.Rules.{form_eq, form_by};
-    ghost use Rattle.kind_rules.specs.Answers.{Answers};
+    ghost use Rattle.kind_rules.specs.Answers.{Yields};
     ghost use Rattle.kind_rules.specs.Views.{form_in};
 
-    // The same once more.
+    // A copy.
     pub(crate) fn copied(&self, alloc: Global) -> Result<Form, NoMemory>
         ensures { IfOk result (λ f. form_in f ≡ form_in self.now) }
     {
@@ -58,8 +58,8 @@ impl Form {
 
     // With others in place of the variables.
     #[tactic(auto, unfolding(law_induction::specs::Rules::form_by))]
-    pub(crate) fn by(&self, alloc: Global, by: &Four) -> Result<Form, Stop>
-        ensures { Answers form_in (form_by by.now (form_in self.now)) result }
+    pub(crate) fn by(&self, alloc: Global, by: &Exponents) -> Result<Form, Stop>
+        ensures { Yields form_in (form_by by.now (form_in self.now)) result }
     {
         let left = instance(alloc, &self.left, by)?;
         let right = instance(alloc, &self.right, by)?;

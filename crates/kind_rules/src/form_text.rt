@@ -1,7 +1,7 @@
 // The texts of blocks and forms.
 ghost use Rattle.std.specs.Prelude.{◌≡◌, ◌<◌, [], Some, None, IfOk, IfSome, is_some, length, option_map, position};
 ghost use Rattle.text.specs.Parts.{parts_of};
-ghost use Rattle.kind_rules.specs.Texts.{block_from, blocks_from, half_from, state_from, heading_from, is_capital, form_at, form_from};
+ghost use Rattle.kind_rules.specs.Texts.{block_from, blocks_from, half_from, form_state_from, heading_from, is_capital, form_at, form_from};
 ghost use Rattle.kind_rules.specs.Views.{form_in};
 
 use crate::form::Form;
@@ -85,9 +85,9 @@ fn read_half(alloc: Global, text: &[u8]) -> Result<Option<Vec<Block>>, NoMemory>
 }
 
 // The table's state that a letter names, if it is one of so many.
-#[tactic(auto, unfolding(crate::specs::Texts::state_from))]
+#[tactic(auto, unfolding(crate::specs::Texts::form_state_from))]
 fn state_from(states: u8, letter: u8) -> Option<u8>
-    ensures { result ≡ state_from states letter }
+    ensures { result ≡ form_state_from states letter }
 {
     let state = letter.saturating_sub(b'A');
     if state < states { Some(state) } else { None }

@@ -1,10 +1,10 @@
 // The check of rules with induction.
 ghost use Rattle.std.specs.Prelude.{◌≡◌, ◌+◌, ◌<◌, [], Some, map, nat_le, is_some, IfSome, IfNone};
 ghost use Rattle.machine_text.specs.Packed.{entry_of};
-ghost use Rattle.law_induction.specs.Scripts.{has_step, steps_of, steps_in};
+ghost use Rattle.law_induction.specs.Scripts.{has_step, move_steps, steps_in};
 ghost use Rattle.law_induction.specs.Words.{all_steps_limit};
-ghost use Rattle.law_induction.specs.Rules.{all_steps, base_steps, steps_of_all, leads, leads_from, leads_by, form_by, forms_of, with_a, blank_form, is_proved_by, are_proved, is_certificate};
-ghost use Rattle.kind_rules.specs.Answers.{Shows};
+ghost use Rattle.law_induction.specs.Rules.{all_steps, base_steps, steps_of_all, script_leads, leads_from, leads_by, form_by, forms_of, with_a, blank_form, is_proved_by, are_proved, is_certificate};
+ghost use Rattle.kind_rules.specs.Answers.{Meets};
 ghost use Rattle.kind_rules.specs.Views.{form_in, rule_in, proved_in, setting_in, certificate_of};
 
 use crate::form::{Form, Rule};
@@ -12,12 +12,12 @@ use crate::limits::MAX_ALL_STEPS;
 use crate::setting::Setting;
 use crate::stop::Stop;
 use crate::unpacked::{ProvedRule, Unpacked};
-use law_induction::{Four, Move, Times};
+use law_induction::{Exponent, Exponents, Move};
 use machine_text::{Dir, Table};
 use std::alloc::Global;
 
 // Whether a script leads from one form to another.
-#[tactic(auto, unfolding(law_induction::specs::Rules::leads))]
+#[tactic(auto, unfolding(law_induction::specs::Rules::script_leads))]
 fn leads(
     alloc: Global,
     s: &Setting<'_, '_, '_>,
@@ -25,7 +25,7 @@ fn leads(
     from: Form,
     to: &Form,
 ) -> Result<(), Stop>
-    ensures { Shows (leads (setting_in s.now) moves.now (form_in from) (form_in to.now)) result }
+    ensures { Meets (script_leads (setting_in s.now) moves.now (form_in from) (form_in to.now)) result }
 {
     let mut form = from;
     form.go_all(alloc, s, moves)?;
@@ -36,16 +36,16 @@ fn leads(
     }
 }
 
-// The same for others in place of the variables.
+// Whether it leads from one of a rule's forms to the other, with others in place of the variables.
 #[tactic(auto, unfolding(law_induction::specs::Rules::leads_by))]
 fn leads_by(
     alloc: Global,
     s: &Setting<'_, '_, '_>,
-    by: &Four,
+    by: &Exponents,
     moves: &[Move],
     rule: &Rule,
 ) -> Result<(), Stop>
-    ensures { Shows (leads_by (setting_in s.now) by.now moves.now (rule_in rule.now)) result }
+    ensures { Meets (leads_by (setting_in s.now) by.now moves.now (rule_in rule.now)) result }
 {
     let from = rule.from.by(alloc, by)?;
     let to = rule.to.by(alloc, by)?;
@@ -53,26 +53,26 @@ fn leads_by(
 }
 
 // Others in place of a alone.
-fn with_a(a: Times) -> Four
+fn with_a(a: Exponent) -> Exponents
     ensures { result ≡ with_a a }
 {
-    Four {
+    Exponents {
         a,
-        b: Times {
+        b: Exponent {
             ones: 0,
             a: 0,
             b: 1,
             c: 0,
             d: 0,
         },
-        c: Times {
+        c: Exponent {
             ones: 0,
             a: 0,
             b: 0,
             c: 1,
             d: 0,
         },
-        d: Times {
+        d: Exponent {
             ones: 0,
             a: 0,
             b: 0,
@@ -90,7 +90,7 @@ fn check_rule(
     before: &[ProvedRule],
     proved: &ProvedRule,
 ) -> Result<(), Stop>
-    ensures { Shows (is_proved_by (entry_of t.now) (forms_of (map proved_in before.now))
+    ensures { Meets (is_proved_by (entry_of t.now) (forms_of (map proved_in before.now))
         (proved_in proved.now).rule (proved_in proved.now).base (proved_in proved.now).script) result }
 {
     let rule = &proved.rule;
@@ -107,7 +107,7 @@ fn check_rule(
             leads(alloc, &s, &proved.script, from, &rule.to)
         }
         Some(base) => {
-            let zero = Times {
+            let zero = Exponent {
                 ones: 0,
                 a: 0,
                 b: 0,
@@ -115,7 +115,7 @@ fn check_rule(
                 d: 0,
             };
             leads_by(alloc, &s, &with_a(zero), base, rule)?;
-            let next = Times {
+            let next = Exponent {
                 ones: 1,
                 a: 1,
                 b: 0,
@@ -137,7 +137,7 @@ fn check_rule(
 // Whether all rules are proved.
 #[tactic(auto, unfolding(law_induction::specs::Rules::are_proved))]
 fn check_rules(alloc: Global, t: &Table, rules: &[ProvedRule]) -> Result<(), Stop>
-    ensures { Shows (are_proved (entry_of t.now) [] (map proved_in rules.now)) result }
+    ensures { Meets (are_proved (entry_of t.now) [] (map proved_in rules.now)) result }
 {
     for k in 0..rules.len() {
         check_rule(alloc, t, &rules[..k], &rules[k])?;
@@ -162,7 +162,7 @@ fn has_step(moves: &[Move]) -> bool
 
 // How many steps of the machine a move has.
 fn steps_of(x: Move) -> u32
-    ensures { result ≡ steps_of x }
+    ensures { result ≡ move_steps x }
 {
     match x {
         Move::Steps(n) => n,
@@ -182,9 +182,10 @@ fn left_behind(moves: &[Move], most: u32) -> Option<u32>
     Some(left)
 }
 
-// The same behind the scripts of a rule.
+// How many are left behind the scripts of a rule.
 fn left_behind_rule(proved: &ProvedRule, most: u32) -> Option<u32>
-    ensures some { IfSome result (λ left. left + (base_steps (proved_in proved.now).base + steps_in proved.now.script.items) ≡ most) }
+    ensures some { IfSome result (λ left. left + (base_steps (proved_in proved.now).base
+        + steps_in proved.now.script.items) ≡ most) }
     ensures none { IfNone result (most < base_steps (proved_in proved.now).base + steps_in proved.now.script.items) }
 {
     let left = match &proved.base {
@@ -209,7 +210,8 @@ fn left_behind_all(rules: &[ProvedRule], most: u32) -> Option<u32>
 impl Unpacked {
     // Whether the run comes to the form at first.
     fn check_begin(&self, alloc: Global, s: &Setting<'_, '_, '_>) -> Result<(), Stop>
-        ensures { Shows (leads_from (setting_in s.now) self.now.begin.items (Some blank_form) (form_by self.now.first (form_in self.now.family))) result }
+        ensures { Meets (leads_from (setting_in s.now) self.now.begin.items (Some blank_form)
+            (form_by self.now.first (form_in self.now.family))) result }
     {
         let blank = Form {
             left: Vec::new(alloc),
@@ -223,7 +225,8 @@ impl Unpacked {
 
     // Whether it comes there again.
     fn check_again(&self, alloc: Global, s: &Setting<'_, '_, '_>) -> Result<(), Stop>
-        ensures { Shows (leads_from (setting_in s.now) self.now.again.items (Some (form_in self.now.family)) (form_by self.now.next (form_in self.now.family))) result }
+        ensures { Meets (leads_from (setting_in s.now) self.now.again.items (Some (form_in self.now.family))
+            (form_by self.now.next (form_in self.now.family))) result }
     {
         let family = self.family.copied(alloc)?;
         let next = self.family.by(alloc, &self.next)?;
@@ -243,7 +246,7 @@ impl Unpacked {
     // Whether it is a certificate of a table.
     #[tactic(auto, unfolding(law_induction::specs::Rules::is_certificate))]
     pub(crate) fn judge(&self, alloc: Global, t: &Table) -> Result<(), Stop>
-        ensures { Shows (is_certificate (entry_of t.now) (certificate_of self.now)) result }
+        ensures { Meets (is_certificate (entry_of t.now) (certificate_of self.now)) result }
     {
         if self.steps_left().is_none() {
             return Err(Stop::Fails);

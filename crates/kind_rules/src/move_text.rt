@@ -1,7 +1,7 @@
 // The texts of moves and scripts.
 ghost use Rattle.std.specs.Prelude.{◌≡◌, ◌-◌, [], Some, None, IfOk, is_some, length, option_map};
 ghost use Rattle.text.specs.Parts.{parts_of};
-ghost use Rattle.kind_rules.specs.Texts.{if_none, use_from, again_from, split_from, spell_from, roll_from, power_from, empty_from, blank_from, equation_from, is_capital, change_by, change_from, move_by, move_from, moves_from, script_from};
+ghost use Rattle.kind_rules.specs.Texts.{if_none, use_from, again_from, split_from, spell_from, roll_from, power_from, empty_from, blank_from, equation_from, is_capital, change_by, change_from, move_by, move_named, moves_from, script_from};
 
 use crate::number_text::{four_from, next_times, number_from, times_from, word_from};
 use law_induction::{Equation, Move};
@@ -160,9 +160,9 @@ fn move_by(letter: u8, rest: &[u8], text: &[u8]) -> Option<Move>
 }
 
 // The move that a text is.
-#[tactic(auto, unfolding(crate::specs::Texts::move_from))]
+#[tactic(auto, unfolding(crate::specs::Texts::move_named))]
 fn move_from(text: &[u8]) -> Option<Move>
-    ensures { result ≡ move_from text.now }
+    ensures { result ≡ move_named text.now }
 {
     if text.is_empty() {
         return None;

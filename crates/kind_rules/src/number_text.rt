@@ -3,15 +3,15 @@ ghost use Rattle.std.specs.Prelude.{◌≡◌, ◌*◌, ◌<◌, ◌≤◌, IfSo
 ghost use Rattle.text.specs.Parts.{parts_of};
 ghost use Rattle.kind_rules.specs.Limits.{symbol_weight_limit};
 ghost use Rattle.kind_rules.specs.Views.{factored_of};
-ghost use Rattle.kind_rules.specs.Texts.{number_from, factor_from, symbol_onto, word_from, factored, times_from, next_times, behind, four_from};
+ghost use Rattle.kind_rules.specs.Texts.{number_from, factor_from, symbol_onto, word_from, factored, exponent_from, next_times, parts_behind, four_from};
 
 use crate::limits::{MAX_NUMBER, MAX_SYMBOL_WEIGHT};
 use crate::sides::never_once;
-use law_induction::{Four, Times};
+use law_induction::{Exponent, Exponents};
 use text::{Parts, decimal_value};
 
 // The number that a text is.
-#[tactic(auto, unfolding(crate::specs::Texts::number_from, law_induction::specs::Words::number_limit))]
+#[tactic(auto, unfolding(crate::specs::Texts::number_from, law_induction::specs::Words::exponent_limit))]
 pub(crate) fn number_from(text: &[u8]) -> Option<u32>
     ensures { result ≡ number_from text.now }
 {
@@ -90,16 +90,16 @@ fn factored<'a>(letter: u8, text: &'a [u8]) -> Option<Factor<'a>>
 }
 
 // The exponent that a text is.
-#[tactic(auto, unfolding(crate::specs::Texts::times_from))]
-pub(crate) fn times_from(text: &[u8]) -> Option<Times>
-    ensures { result ≡ times_from text.now }
+#[tactic(auto, unfolding(crate::specs::Texts::exponent_from))]
+pub(crate) fn times_from(text: &[u8]) -> Option<Exponent>
+    ensures { result ≡ exponent_from text.now }
 {
     let d = factored(b'd', text)?;
     let c = factored(b'c', d.before)?;
     let b = factored(b'b', c.before)?;
     let a = factored(b'a', b.before)?;
     let ones = number_from(a.before)?;
-    Some(Times {
+    Some(Exponent {
         ones,
         a: a.factor,
         b: b.factor,
@@ -109,9 +109,9 @@ pub(crate) fn times_from(text: &[u8]) -> Option<Times>
 }
 
 // The next exponent, which is 0 where none is left.
-pub(crate) fn next_times(parts: &mut Parts<'_>) -> Option<Times>
+pub(crate) fn next_times(parts: &mut Parts<'_>) -> Option<Exponent>
     ensures times { result ≡ next_times parts.old }
-    ensures behind { IfSome result (λ _. parts.new ≡ behind parts.old) }
+    ensures parts_behind { IfSome result (λ _. parts.new ≡ parts_behind parts.old) }
 {
     match parts.next() {
         Some(part) => times_from(part),
@@ -119,9 +119,9 @@ pub(crate) fn next_times(parts: &mut Parts<'_>) -> Option<Times>
     }
 }
 
-// Exponents in place of the variables.
+// Four in place of the variables.
 #[tactic(auto, unfolding(crate::specs::Texts::four_from))]
-pub(crate) fn four_from(mut parts: Parts<'_>) -> Option<Four>
+pub(crate) fn four_from(mut parts: Parts<'_>) -> Option<Exponents>
     ensures { result ≡ four_from parts.entry }
 {
     let a = next_times(&mut parts)?;
@@ -131,5 +131,5 @@ pub(crate) fn four_from(mut parts: Parts<'_>) -> Option<Four>
     if parts.next().is_some() {
         return None;
     }
-    Some(Four { a, b, c, d })
+    Some(Exponents { a, b, c, d })
 }

@@ -1,6 +1,6 @@
 // Rules with induction, and the evidence that they keep a table from halting.
 ghost use Rattle.kind_rules.specs.RuleTexts.{AreRuleTexts};
-ghost use Rattle.kind_rules.specs.TextsGiven.{texts_given};
+ghost use Rattle.kind_rules.specs.TextsGiven.{rule_texts_given};
 
 use crate::stop::Stop;
 use crate::texts_given::TextsGiven;
@@ -17,7 +17,7 @@ use text::{FieldFault, Parts, append_field, end_of, next_field};
 #[derive(Clone, Copy, Debug, PartialEq, Eq)]
 pub struct Rules<'a> {
     pub(crate) texts: TextsGiven<'a>,
-    ghost are: { AreRuleTexts (texts_given texts) },
+    ghost are: { AreRuleTexts (rule_texts_given texts) },
 }
 
 impl<'a> Rules<'a> {
@@ -32,7 +32,7 @@ impl<'a> Rules<'a> {
     // texts.
     fn of(texts: TextsGiven<'a>) -> Result<Rules<'a>, FieldFault>
         requires { (1 ≤ texts.states) × (texts.states ≤ state_limit) }
-        ensures { made_of rule_texts_of result ≡ rules_by (texts_given texts.entry) }
+        ensures { made_of rule_texts_of result ≡ rules_by (rule_texts_given texts.entry) }
     {
         if !texts.are_short() {
             return Err(FieldFault::TooLong);

@@ -1,9 +1,9 @@
 // Scripts, move by move.
 ghost use Rattle.std.specs.Prelude.{◌≡◌, ◌&&◌, nat_le, length, map, option_map};
 ghost use Rattle.law_induction.specs.Scripts.{rule_at, done, done_within, all_done};
-ghost use Rattle.law_induction.specs.Words.{block_limit};
+ghost use Rattle.law_induction.specs.Words.{half_block_limit};
 ghost use Rattle.law_induction.specs.Rules.{forms_of};
-ghost use Rattle.kind_rules.specs.Answers.{Answers};
+ghost use Rattle.kind_rules.specs.Answers.{Yields};
 ghost use Rattle.kind_rules.specs.Views.{form_in, rule_in, proved_in, setting_in};
 
 use crate::form::{Form, Rule};
@@ -12,7 +12,7 @@ use crate::setting::Setting;
 use crate::sides::{is_at_end, sides};
 use crate::stop::Stop;
 use crate::unpacked::ProvedRule;
-use law_induction::{Equation, Four, Move, Times};
+use law_induction::{Equation, Exponent, Exponents, Move};
 use machine_text::Dir;
 use std::alloc::Global;
 
@@ -32,7 +32,7 @@ impl Form {
     // Steps, where there are no more than may be.
     #[tactic(auto, unfolding(law_induction::specs::Scripts::done, law_induction::specs::Words::step_limit))]
     fn few_steps(&mut self, alloc: Global, s: &Setting<'_, '_, '_>, n: u32) -> Result<(), Stop>
-        ensures { Answers (λ _. form_in self.new) (done (setting_in s.now) (Steps n) (form_in self.old)) result }
+        ensures { Yields (λ _. form_in self.new) (done (setting_in s.now) (Steps n) (form_in self.old)) result }
     {
         if n > MAX_STEPS {
             return Err(Stop::Fails);
@@ -47,9 +47,9 @@ impl Form {
         alloc: Global,
         s: &Setting<'_, '_, '_>,
         k: u32,
-        by: &Four,
+        by: &Exponents,
     ) -> Result<(), Stop>
-        ensures { Answers (λ _. form_in self.new) (done (setting_in s.now) (Use k by.now) (form_in self.old)) result }
+        ensures { Yields (λ _. form_in self.new) (done (setting_in s.now) (Use k by.now) (form_in self.old)) result }
     {
         let Some(rule) = earlier(s.rules, k) else {
             return Err(Stop::Fails);
@@ -63,23 +63,29 @@ impl Form {
         &mut self,
         alloc: Global,
         s: &Setting<'_, '_, '_>,
-        b: Times,
-        c: Times,
-        d: Times,
+        b: Exponent,
+        c: Exponent,
+        d: Exponent,
     ) -> Result<(), Stop>
-        ensures { Answers (λ _. form_in self.new) (done (setting_in s.now) (Again b c d) (form_in self.old)) result }
+        ensures { Yields (λ _. form_in self.new) (done (setting_in s.now) (Again b c d) (form_in self.old)) result }
     {
         let Some(rule) = s.again else {
             return Err(Stop::Fails);
         };
-        let a = Times {
+        let a = Exponent {
             ones: 0,
             a: 1,
             b: 0,
             c: 0,
             d: 0,
         };
-        self.use_rule(alloc, rule, &Four { a, b, c, d }, s.open_left, s.open_right)
+        self.use_rule(
+            alloc,
+            rule,
+            &Exponents { a, b, c, d },
+            s.open_left,
+            s.open_right,
+        )
     }
 
     // An equation, from its left side to its right one.
@@ -92,7 +98,8 @@ impl Form {
         place: u32,
         e: Equation,
     ) -> Result<(), Stop>
-        ensures { Answers (λ _. form_in self.new) (done (setting_in s.now) (Forth side place e) (form_in self.old)) result }
+        ensures { Yields (λ _. form_in self.new) (done (setting_in s.now) (Forth side place e) (form_in self.old))
+            result }
     {
         let both = sides(alloc, e)?;
         self.rewrite(
@@ -116,7 +123,8 @@ impl Form {
         place: u32,
         e: Equation,
     ) -> Result<(), Stop>
-        ensures { Answers (λ _. form_in self.new) (done (setting_in s.now) (Back side place e) (form_in self.old)) result }
+        ensures { Yields (λ _. form_in self.new) (done (setting_in s.now) (Back side place e) (form_in self.old))
+            result }
     {
         let both = sides(alloc, e)?;
         self.rewrite(
@@ -133,7 +141,7 @@ impl Form {
     // One move.
     #[tactic(auto, unfolding(law_induction::specs::Scripts::done))]
     fn go(&mut self, alloc: Global, s: &Setting<'_, '_, '_>, x: Move) -> Result<(), Stop>
-        ensures { Answers (λ _. form_in self.new) (done (setting_in s.now) x (form_in self.old)) result }
+        ensures { Yields (λ _. form_in self.new) (done (setting_in s.now) x (form_in self.old)) result }
     {
         match x {
             Move::Steps(n) => self.few_steps(alloc, s, n),
@@ -146,9 +154,10 @@ impl Form {
     }
 
     // Whether it isn't too long.
-    #[tactic(auto, unfolding(law_induction::specs::Words::block_limit))]
+    #[tactic(auto, unfolding(law_induction::specs::Words::half_block_limit))]
     fn is_small(&self) -> bool
-        ensures { result ≡ (nat_le (length self.now.left.items) block_limit && nat_le (length self.now.right.items) block_limit) }
+        ensures { result ≡ (nat_le (length self.now.left.items) half_block_limit
+            && nat_le (length self.now.right.items) half_block_limit) }
     {
         self.left.len() <= MAX_BLOCKS && self.right.len() <= MAX_BLOCKS
     }
@@ -156,7 +165,7 @@ impl Form {
     // One move, from a form that isn't too long.
     #[tactic(auto, unfolding(law_induction::specs::Scripts::done_within, law_induction::specs::Scripts::small))]
     fn go_within(&mut self, alloc: Global, s: &Setting<'_, '_, '_>, x: Move) -> Result<(), Stop>
-        ensures { Answers (λ _. form_in self.new) (done_within (setting_in s.now) x (form_in self.old)) result }
+        ensures { Yields (λ _. form_in self.new) (done_within (setting_in s.now) x (form_in self.old)) result }
     {
         if !self.is_small() {
             return Err(Stop::Fails);
@@ -172,7 +181,7 @@ impl Form {
         s: &Setting<'_, '_, '_>,
         moves: &[Move],
     ) -> Result<(), Stop>
-        ensures { Answers (λ _. form_in self.new) (all_done (setting_in s.now) moves.now (form_in self.old)) result }
+        ensures { Yields (λ _. form_in self.new) (all_done (setting_in s.now) moves.now (form_in self.old)) result }
     {
         for x in moves {
             self.go_within(alloc, s, *x)?;

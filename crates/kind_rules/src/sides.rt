@@ -3,16 +3,16 @@ ghost use Rattle.std.specs.Prelude.{◌≡◌, ◌↔◌, ◌++◌, [], Some, ma
 ghost use Rattle.machine_text.specs.declared.transition.Sym.TheVariants.{One};
 ghost use Rattle.law_machines.specs.Words.{repeat};
 ghost use Rattle.law_induction.specs.declared.equation.Equation.TheVariants.{Split, Spell, Roll, Power, Empty, Blank};
-ghost use Rattle.law_induction.specs.Words.{once, never_once, single, symbols};
+ghost use Rattle.law_induction.specs.Words.{one_time, never_once, single, word_symbols};
 ghost use Rattle.law_induction.specs.Equations.{sides, sides_of, is_at_end, are_blanks};
-ghost use Rattle.kind_rules.specs.Answers.{Answers};
+ghost use Rattle.kind_rules.specs.Answers.{Yields};
 ghost use Rattle.kind_rules.specs.Views.{sides_in};
 
 use crate::limits::MAX_COPIES;
 use crate::numbers::{product_of, sum_of};
 use crate::stop::Stop;
 use crate::words::{are_same, spell};
-use law_induction::{Block, Equation, Times};
+use law_induction::{Block, Equation, Exponent};
 use machine_text::Sym;
 use std::alloc::{AllocError as NoMemory, Global};
 
@@ -24,10 +24,10 @@ pub(crate) struct BothSides {
 }
 
 // Once.
-pub(crate) fn once() -> Times
-    ensures { result ≡ once }
+pub(crate) fn once() -> Exponent
+    ensures { result ≡ one_time }
 {
-    Times {
+    Exponent {
         ones: 1,
         a: 0,
         b: 0,
@@ -37,10 +37,10 @@ pub(crate) fn once() -> Times
 }
 
 // Not once.
-pub(crate) fn never_once() -> Times
+pub(crate) fn never_once() -> Exponent
     ensures { result ≡ never_once }
 {
-    Times {
+    Exponent {
         ones: 0,
         a: 0,
         b: 0,
@@ -67,7 +67,7 @@ pub(crate) fn single(s: Sym) -> Block
 
 // Two rows as sides.
 fn both(alloc: Global, before: &[Block], after: &[Block]) -> Result<BothSides, Stop>
-    ensures { Answers sides_in (Some (sides_of before.now after.now)) result }
+    ensures { Yields sides_in (Some (sides_of before.now after.now)) result }
 {
     let before = Vec::from_slice(alloc, before)?;
     let after = Vec::from_slice(alloc, after)?;
@@ -76,8 +76,8 @@ fn both(alloc: Global, before: &[Block], after: &[Block]) -> Result<BothSides, S
 
 // A word so many times, and more.
 #[tactic(auto, unfolding(law_induction::specs::Equations::sides))]
-fn split(alloc: Global, word: u64, first: Times, second: Times) -> Result<BothSides, Stop>
-    ensures { Answers sides_in (sides (Split word first second)) result }
+fn split(alloc: Global, word: u64, first: Exponent, second: Exponent) -> Result<BothSides, Stop>
+    ensures { Yields sides_in (sides (Split word first second)) result }
 {
     let Some(times) = sum_of(first, second) else {
         return Err(Stop::Fails);
@@ -106,7 +106,7 @@ fn singles(alloc: Global, symbols: &[Sym]) -> Result<Vec<Block>, NoMemory>
 
 // The symbols of a word.
 fn spelled(alloc: Global, word: u64) -> Result<Vec<Sym>, NoMemory>
-    ensures { IfOk result (λ row. row.items ≡ symbols word) }
+    ensures { IfOk result (λ row. row.items ≡ word_symbols word) }
 {
     let mut row = Vec::new(alloc);
     spell(&mut row, word)?;
@@ -115,7 +115,7 @@ fn spelled(alloc: Global, word: u64) -> Result<Vec<Sym>, NoMemory>
 
 // The symbols of two words.
 fn spelled_both(alloc: Global, first: u64, second: u64) -> Result<Vec<Sym>, NoMemory>
-    ensures { IfOk result (λ row. row.items ≡ symbols first ++ symbols second) }
+    ensures { IfOk result (λ row. row.items ≡ word_symbols first ++ word_symbols second) }
 {
     let mut row = Vec::new(alloc);
     spell(&mut row, first)?;
@@ -125,7 +125,7 @@ fn spelled_both(alloc: Global, first: u64, second: u64) -> Result<Vec<Sym>, NoMe
 
 // The symbols of a word so many times.
 fn spelled_often(alloc: Global, word: u64, copies: u32) -> Result<Vec<Sym>, NoMemory>
-    ensures { IfOk result (λ row. row.items ≡ repeat (symbols word) copies []) }
+    ensures { IfOk result (λ row. row.items ≡ repeat (word_symbols word) copies []) }
 {
     let mut row = Vec::new(alloc);
     for i in 0..copies {
@@ -137,7 +137,7 @@ fn spelled_often(alloc: Global, word: u64, copies: u32) -> Result<Vec<Sym>, NoMe
 // A word as its symbols.
 #[tactic(auto, unfolding(law_induction::specs::Equations::sides))]
 fn as_symbols(alloc: Global, word: u64) -> Result<BothSides, Stop>
-    ensures { Answers sides_in (sides (Spell word)) result }
+    ensures { Yields sides_in (sides (Spell word)) result }
 {
     let row = spelled(alloc, word)?;
     let after = singles(alloc, &row)?;
@@ -153,8 +153,14 @@ fn as_symbols(alloc: Global, word: u64) -> Result<BothSides, Stop>
 
 // A word that others are rolled over.
 #[tactic(auto, unfolding(law_induction::specs::Equations::sides))]
-fn rolled(alloc: Global, over: u64, word: u64, other: u64, times: Times) -> Result<BothSides, Stop>
-    ensures { Answers sides_in (sides (Roll over word other times)) result }
+fn rolled(
+    alloc: Global,
+    over: u64,
+    word: u64,
+    other: u64,
+    times: Exponent,
+) -> Result<BothSides, Stop>
+    ensures { Yields sides_in (sides (Roll over word other times)) result }
 {
     let before = spelled_both(alloc, over, word)?;
     let after = spelled_both(alloc, other, over)?;
@@ -185,9 +191,9 @@ fn powered(
     long: u64,
     word: u64,
     copies: u32,
-    times: Times,
+    times: Exponent,
 ) -> Result<BothSides, Stop>
-    ensures { Answers sides_in (sides (Power long word copies times)) result }
+    ensures { Yields sides_in (sides (Power long word copies times)) result }
 {
     if copies > MAX_COPIES {
         return Err(Stop::Fails);
@@ -210,7 +216,7 @@ fn powered(
 // A word not once.
 #[tactic(auto, unfolding(law_induction::specs::Equations::sides))]
 fn emptied(alloc: Global, word: u64) -> Result<BothSides, Stop>
-    ensures { Answers sides_in (sides (Empty word)) result }
+    ensures { Yields sides_in (sides (Empty word)) result }
 {
     both(
         alloc,
@@ -244,8 +250,8 @@ fn is_one(s: Sym) -> bool
 
 // Blanks.
 #[tactic(auto, unfolding(law_induction::specs::Equations::sides))]
-fn blank(alloc: Global, word: u64, times: Times) -> Result<BothSides, Stop>
-    ensures { Answers sides_in (sides (Blank word times)) result }
+fn blank(alloc: Global, word: u64, times: Exponent) -> Result<BothSides, Stop>
+    ensures { Yields sides_in (sides (Blank word times)) result }
 {
     let row = spelled(alloc, word)?;
     if !are_blanks(&row) {
@@ -256,7 +262,7 @@ fn blank(alloc: Global, word: u64, times: Times) -> Result<BothSides, Stop>
 
 // The two sides of an equation, where it is one.
 pub(crate) fn sides(alloc: Global, e: Equation) -> Result<BothSides, Stop>
-    ensures { Answers sides_in (sides e) result }
+    ensures { Yields sides_in (sides e) result }
 {
     match e {
         Equation::Split(word, first, second) => split(alloc, word, first, second),

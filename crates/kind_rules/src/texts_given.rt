@@ -39,13 +39,13 @@ fn are_high(text: &[u8]) -> bool
 impl TextsGiven<'_> {
     ghost use Rattle.std.specs.Prelude.{◌≡◌, ◌≤◌, ◌↔◌, IfOk, IsTrue, is_some, nat_le, option_map};
     ghost use Rattle.kind_rules.specs.Limits.{rules_byte_limit};
-    ghost use Rattle.kind_rules.specs.RuleTexts.{all_high, bytes_of, certificate_in, given_by};
+    ghost use Rattle.kind_rules.specs.RuleTexts.{all_high, rule_bytes, certificate_in, given_by};
     ghost use Rattle.kind_rules.specs.Views.{certificate_of};
-    ghost use Rattle.kind_rules.specs.TextsGiven.{texts_given};
+    ghost use Rattle.kind_rules.specs.TextsGiven.{rule_texts_given};
 
     // How many of the bytes that the texts may have together are left; none where they are longer.
     fn room_left(&self) -> Option<usize>
-        ensures { is_some result ≡ nat_le (bytes_of (texts_given self.now)) rules_byte_limit }
+        ensures { is_some result ≡ nat_le (rule_bytes (rule_texts_given self.now)) rules_byte_limit }
     {
         let left = (MAX_RULE_BYTES - 5).checked_sub(self.rules.len())?;
         let left = left.checked_sub(self.family.len())?;
@@ -57,7 +57,7 @@ impl TextsGiven<'_> {
 
     // Whether the texts together are within `MAX_RULE_BYTES`.
     pub fn are_short(&self) -> bool
-        ensures { IsTrue result ↔ (bytes_of (texts_given self.now) ≤ rules_byte_limit) }
+        ensures { IsTrue result ↔ (rule_bytes (rule_texts_given self.now) ≤ rules_byte_limit) }
     {
         self.room_left().is_some()
     }
@@ -65,7 +65,7 @@ impl TextsGiven<'_> {
     // Whether each text is a field.
     #[tactic(auto, unfolding(crate::specs::RuleTexts::all_high))]
     fn are_fields(&self) -> bool
-        ensures { result ≡ all_high (texts_given self.now) }
+        ensures { result ≡ all_high (rule_texts_given self.now) }
     {
         are_high(self.rules)
             && are_high(self.family)
@@ -78,7 +78,7 @@ impl TextsGiven<'_> {
     // Whether each text is of its grammar.
     #[tactic(auto, unfolding(crate::specs::RuleTexts::certificate_in))]
     fn give(&self) -> bool
-        ensures { result ≡ is_some (certificate_in (texts_given self.now)) }
+        ensures { result ≡ is_some (certificate_in (rule_texts_given self.now)) }
     {
         if !are_rules(self.states, self.rules) {
             return false;
@@ -101,7 +101,7 @@ impl TextsGiven<'_> {
     // Whether the texts give a certificate. Takes no memory.
     #[tactic(auto, unfolding(crate::specs::RuleTexts::given_by))]
     pub fn are_read(&self) -> bool
-        ensures { result ≡ is_some (given_by (texts_given self.now)) }
+        ensures { result ≡ is_some (given_by (rule_texts_given self.now)) }
     {
         if !self.are_fields() {
             return false;
@@ -112,7 +112,7 @@ impl TextsGiven<'_> {
     // The certificate that the texts give; none where they give none.
     #[tactic(auto, unfolding(crate::specs::RuleTexts::certificate_in))]
     fn unpacked(&self, alloc: Global) -> Result<Option<Unpacked>, NoMemory>
-        ensures { IfOk result (λ read. option_map certificate_of read ≡ certificate_in (texts_given self.now)) }
+        ensures { IfOk result (λ read. option_map certificate_of read ≡ certificate_in (rule_texts_given self.now)) }
     {
         let Some(rules) = read_rules(alloc, self.states, self.rules)? else {
             return Ok(None);
@@ -142,10 +142,10 @@ impl TextsGiven<'_> {
         }))
     }
 
-    // The same, where each text is a field.
+    // The certificate that the texts give, where each is a field.
     #[tactic(auto, unfolding(crate::specs::RuleTexts::given_by))]
     pub fn read(&self, alloc: Global) -> Result<Option<Unpacked>, NoMemory>
-        ensures { IfOk result (λ read. option_map certificate_of read ≡ given_by (texts_given self.now)) }
+        ensures { IfOk result (λ read. option_map certificate_of read ≡ given_by (rule_texts_given self.now)) }
     {
         if !self.are_fields() {
             return Ok(None);

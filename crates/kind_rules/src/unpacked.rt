@@ -1,6 +1,6 @@
 // A certificate, unpacked from its texts.
 use crate::form::{Form, Rule};
-use law_induction::{Four, Move};
+use law_induction::{Exponents, Move};
 
 /// A rule with its proof: a script; or by induction on the variable a a script for 0, and one for a + 1.
 #[derive(Drop)]
@@ -16,8 +16,8 @@ pub(crate) struct ProvedRule {
 pub(crate) struct Unpacked {
     pub rules: Vec<ProvedRule>,
     pub family: Form,
-    pub first: Four,
+    pub first: Exponents,
     pub begin: Vec<Move>,
-    pub next: Four,
+    pub next: Exponents,
     pub again: Vec<Move>,
 }

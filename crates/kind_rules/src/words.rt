@@ -1,6 +1,6 @@
 // The symbols of words.
 ghost use Rattle.std.specs.Prelude.{◌≡◌, ◌++◌, IfOk};
-ghost use Rattle.law_induction.specs.Words.{symbols, symbols_eq, digit};
+ghost use Rattle.law_induction.specs.Words.{word_symbols, symbols_eq, digit};
 
 use crate::limits::MAX_WORD;
 use machine_text::Sym;
@@ -14,9 +14,9 @@ fn digit(n: u64) -> Sym
 }
 
 // Puts the symbols of a word behind others.
-#[tactic(auto, unfolding(law_induction::specs::Words::symbols))]
+#[tactic(auto, unfolding(law_induction::specs::Words::word_symbols))]
 pub(crate) fn spell(row: &mut Vec<Sym>, word: u64) -> Result<(), NoMemory>
-    ensures { IfOk result (λ _. row.new.items ≡ row.old.items ++ symbols word) }
+    ensures { IfOk result (λ _. row.new.items ≡ row.old.items ++ word_symbols word) }
 {
     let mut rest = word;
     for i in 0..MAX_WORD {

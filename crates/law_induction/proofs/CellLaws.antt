@@ -6,7 +6,7 @@ use Rattle.machine_text.specs.declared.transition.Sym.TheVariants.{Zero, One}
 use Rattle.law_machines.specs.Zipper.{symbol_at}
 use Rattle.law_machines.specs.Words.{repeat, SameCells}
 use Rattle.law_induction.specs.declared.block.Block.{Block}
-use Rattle.law_induction.specs.Words.{Values, value, once, never_once, single, single_word, symbols, cells, symbol_eq, symbols_eq}
+use Rattle.law_induction.specs.Words.{Values, value, one_time, never_once, single, single_word, word_symbols, cells, symbol_eq, symbols_eq}
 use Rattle.law_induction.specs.Equations.{are_blanks}
 use Rattle.law_induction.proofs.ValueLaws.{value_once}
 
@@ -35,21 +35,21 @@ repeat_power v w k is (suc n) l =
 -- blocks behind blocks
 pub cells_append : (xs ys : List Block) (v : Values) (l : List Sym) → cells (xs ++ ys) v l ≡ cells xs v (cells ys v l)
 cells_append [] ys v l = refl
-cells_append (x ∷ xs) ys v l = ap (repeat (symbols x.word) (value x.times v)) (cells_append xs ys v l)
+cells_append (x ∷ xs) ys v l = ap (repeat (word_symbols x.word) (value x.times v)) (cells_append xs ys v l)
 
 -- one symbol
-single_symbols : (s : Sym) → symbols (single_word s) ≡ s ∷ []
-unfolding symbols
+single_symbols : (s : Sym) → word_symbols (single_word s) ≡ s ∷ []
+unfolding word_symbols
 single_symbols Zero = refl
 single_symbols One = refl
 
 repeat_once : (w : List Sym) (n : ℕ) (l : List Sym) → n ≡ 1 → repeat w n l ≡ w ++ l
 repeat_once w n l is = ap (λ k. repeat w k l) is
 
-pub cells_once : (word : ℕ) (v : Values) (l : List Sym) → repeat (symbols word) (value once v) l ≡ symbols word ++ l
-cells_once word v l = repeat_once (symbols word) (value once v) l (value_once v)
+pub cells_once : (word : ℕ) (v : Values) (l : List Sym) → repeat (word_symbols word) (value one_time v) l ≡ word_symbols word ++ l
+cells_once word v l = repeat_once (word_symbols word) (value one_time v) l (value_once v)
 
-pub cells_single : (s : Sym) (v : Values) (l : List Sym) → repeat (symbols (single_word s)) (value once v) l ≡ s ∷ l
+pub cells_single : (s : Sym) (v : Values) (l : List Sym) → repeat (word_symbols (single_word s)) (value one_time v) l ≡ s ∷ l
 cells_single s v l = cells_once (single_word s) v l ∙ ap (λ w. w ++ l) (single_symbols s)
 
 -- the symbols of a word

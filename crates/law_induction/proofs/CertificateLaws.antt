@@ -9,19 +9,19 @@ use Rattle.law_turing.specs.Machine.{Machine}
 use Rattle.law_turing.specs.Halting.{Never}
 use Rattle.law_machines.specs.Rules.{Comes, Goes}
 use Rattle.law_machines.proofs.RuleLaws.{same, ◌⨾◌, ◌⁺⨾◌, never_by_rules}
-use Rattle.law_induction.specs.declared.block.Four.{Four}
+use Rattle.law_induction.specs.declared.block.Exponents.{Exponents}
 use Rattle.law_induction.specs.declared.moves.Move.{Move}
-use Rattle.law_induction.specs.Words.{Values, all_steps_limit, times_of, never_once, cells}
-use Rattle.law_induction.specs.Forms.{Form, zipper_of, IsBeyond, RuleForm, HoldsAt, Holds}
+use Rattle.law_induction.specs.Words.{Values, all_steps_limit, times_with, never_once, cells}
+use Rattle.law_induction.specs.Forms.{Form, zipper_of, IsBeyond, RuleForm, HoldsAt, RuleHolds}
 use Rattle.law_induction.specs.Equations.{instance_of}
 use Rattle.law_induction.specs.Scripts.{Setting, rule_at, all_done, has_step}
-use Rattle.law_induction.specs.Rules.{Proved, Certificate, form_by, form_eq, arrives, leads, leads_from, leads_by, with_a, setting, is_proved_by, are_proved, forms_of, all_steps, blank_form, is_certificate}
+use Rattle.law_induction.specs.Rules.{Proved, Certificate, form_by, form_eq, arrives, script_leads, leads_from, leads_by, with_a, setting, is_proved_by, are_proved, forms_of, all_steps, blank_form, is_certificate}
 use Rattle.law_induction.proofs.ValueLaws.{bound, values_by, same_blocks}
 use Rattle.law_induction.proofs.UseLaws.{cells_instance, same_heading, zipper_same}
 use Rattle.law_induction.proofs.ScriptLaws.{IsSound, script_comes, script_goes}
 
 -- a form with others in place of its variables
-pub zipper_by : (by : Four) (f g : Form) (v : Values) (l r : List Sym) → form_by by f ≡ Some g → zipper_of g v l r ≡ zipper_of f (values_by by v) l r
+pub zipper_by : (by : Exponents) (f g : Form) (v : Values) (l r : List Sym) → form_by by f ≡ Some g → zipper_of g v l r ≡ zipper_of f (values_by by v) l r
 unfolding form_by
 zipper_by by f g v l r is =
     let (left, is_left, more) = bound (instance_of by f.left) _ g is in
@@ -42,19 +42,19 @@ arrived None g is = absurd (false≢true is)
 arrived (Some f) g is = (f, refl, is)
 
 module _ (s : Setting) (v : Values) (sound : IsSound s v) (l r : List Sym) (on_left : IsBeyond s.open_left l) (on_right : IsBeyond s.open_right r) where
-  leads_comes : (moves : List Move) (f g : Form) → leads s moves f g ≡ true → Comes s.machine (zipper_of f v l r) (zipper_of g v l r)
-  unfolding leads
+  leads_comes : (moves : List Move) (f g : Form) → script_leads s moves f g ≡ true → Comes s.machine (zipper_of f v l r) (zipper_of g v l r)
+  unfolding script_leads
   leads_comes moves f g is =
       let (h, run, end) = arrived (all_done s moves f) g is in
       script_comes s v sound l r on_left on_right moves f h run ⨾ same s.machine (zipper_eq h g v l r end)
 
-  leads_goes : (moves : List Move) (f g : Form) → has_step moves ≡ true → leads s moves f g ≡ true → Goes s.machine (zipper_of f v l r) (zipper_of g v l r)
-  unfolding leads
+  leads_goes : (moves : List Move) (f g : Form) → has_step moves ≡ true → script_leads s moves f g ≡ true → Goes s.machine (zipper_of f v l r) (zipper_of g v l r)
+  unfolding script_leads
   leads_goes moves f g steps is =
       let (h, run, end) = arrived (all_done s moves f) g is in
       script_goes s v sound l r on_left on_right moves f h steps run ⁺⨾ same s.machine (zipper_eq h g v l r end)
 
-both_forms : (s : Setting) (moves : List Move) (o p : Option Form) → leads_from s moves o p ≡ true → (f : Form) × (g : Form) × (o ≡ Some f) × (p ≡ Some g) × (leads s moves f g ≡ true)
+both_forms : (s : Setting) (moves : List Move) (o p : Option Form) → leads_from s moves o p ≡ true → (f : Form) × (g : Form) × (o ≡ Some f) × (p ≡ Some g) × (script_leads s moves f g ≡ true)
 both_forms s moves None p is = absurd (false≢true is)
 both_forms s moves (Some f) None is = absurd (false≢true is)
 both_forms s moves (Some f) (Some g) is = (f, g, refl, refl, is)
@@ -67,18 +67,18 @@ values_same a b c d e f g h p q r s = cc
 zero_values : (v : Values) → v.a ≡ 0 → values_by (with_a never_once) v ≡ v
 zero_values v is = values_same _ _ _ _ v.a v.b v.c v.d (omega arith) (omega arith) (omega arith) (omega arith)
 
-next_values : (v u : Values) → v.a ≡ suc u.a → v.b ≡ u.b → v.c ≡ u.c → v.d ≡ u.d → values_by (with_a (times_of 1 1 0 0 0)) u ≡ v
+next_values : (v u : Values) → v.a ≡ suc u.a → v.b ≡ u.b → v.c ≡ u.c → v.d ≡ u.d → values_by (with_a (times_with 1 1 0 0 0)) u ≡ v
 next_values v u a b c d = values_same _ _ _ _ v.a v.b v.c v.d (omega arith) (omega arith) (omega arith) (omega arith)
 
 -- rules that hold
 pub record AllHold (m : Machine) (rules : List RuleForm) : Type 0 where
-  pub each : (k : ℕ) (rule : RuleForm) → rule_at rules k ≡ Some rule → Holds m rule
+  pub each : (k : ℕ) (rule : RuleForm) → rule_at rules k ≡ Some rule → RuleHolds m rule
 
 module _ (m : Machine) (rules : List RuleForm) (all : AllHold m rules) (rule : RuleForm) where
   plain_sound : (open_left open_right : Bool) (v : Values) → IsSound (setting m rules None open_left open_right) v
   plain_sound open_left open_right v = record { rules = all.each; again = λ other is. absurd (none-some other is) }
 
-  by_script : (moves : List Move) → leads (setting m rules None rule.open_left rule.open_right) moves rule.from rule.to ≡ true → Holds m rule
+  by_script : (moves : List Move) → script_leads (setting m rules None rule.open_left rule.open_right) moves rule.from rule.to ≡ true → RuleHolds m rule
   by_script moves is = record {
     at = λ v. record {
       run = λ l r on_left on_right. leads_comes (setting m rules None rule.open_left rule.open_right) v (plain_sound rule.open_left rule.open_right v) l r on_left on_right moves rule.from rule.to is;
@@ -86,51 +86,51 @@ module _ (m : Machine) (rules : List RuleForm) (all : AllHold m rules) (rule : R
   }
 
   -- at other values
-  leads_at : (again : Option RuleForm) (by : Four) (moves : List Move) (v : Values) →
+  leads_at : (again : Option RuleForm) (by : Exponents) (moves : List Move) (v : Values) →
       leads_by (setting m rules again rule.open_left rule.open_right) by moves rule ≡ true → IsSound (setting m rules again rule.open_left rule.open_right) v → HoldsAt m rule (values_by by v)
   unfolding leads_by
   leads_at again by moves v is sound =
       let s = setting m rules again rule.open_left rule.open_right in
-      let (f, g, from, to, leads) = both_forms s moves (form_by by rule.from) (form_by by rule.to) is in
+      let (f, g, from, to, script_leads) = both_forms s moves (form_by by rule.from) (form_by by rule.to) is in
       record {
         run = λ l r on_left on_right.
             same m (sym (zipper_by by rule.from f v l r from)) ⨾
-            (leads_comes s v sound l r on_left on_right moves f g leads ⨾ same m (zipper_by by rule.to g v l r to));
+            (leads_comes s v sound l r on_left on_right moves f g script_leads ⨾ same m (zipper_by by rule.to g v l r to));
       }
 
   by_induction : (base moves : List Move) →
       leads_by (setting m rules None rule.open_left rule.open_right) (with_a never_once) base rule ≡ true →
-      leads_by (setting m rules (Some rule) rule.open_left rule.open_right) (with_a (times_of 1 1 0 0 0)) moves rule ≡ true →
+      leads_by (setting m rules (Some rule) rule.open_left rule.open_right) (with_a (times_with 1 1 0 0 0)) moves rule ≡ true →
       (n : ℕ) (v : Values) → v.a ≡ n → HoldsAt m rule v
   by_induction base moves first next zero v is =
       subst (HoldsAt m rule) (zero_values v is) (leads_at None (with_a never_once) base v first (plain_sound rule.open_left rule.open_right v))
   by_induction base moves first next (suc n) v is =
       let u : Values = record { a = n; b = v.b; c = v.c; d = v.d } in
-      subst (HoldsAt m rule) (next_values v u is refl refl refl) (leads_at (Some rule) (with_a (times_of 1 1 0 0 0)) moves u next (record {
+      subst (HoldsAt m rule) (next_values v u is refl refl refl) (leads_at (Some rule) (with_a (times_with 1 1 0 0 0)) moves u next (record {
         rules = all.each;
         again = λ other same w at. subst (λ x. HoldsAt m x w) (same_Some rule other same) (by_induction base moves first next n w at);
       }))
 
-  pub proved_holds : (base : Option (List Move)) (moves : List Move) → is_proved_by m rules rule base moves ≡ true → Holds m rule
+  pub proved_holds : (base : Option (List Move)) (moves : List Move) → is_proved_by m rules rule base moves ≡ true → RuleHolds m rule
   unfolding is_proved_by
   proved_holds None moves is = by_script moves is
   proved_holds (Some base) moves is =
       let (first, next) = and_parts _ _ is in
       record { at = λ v. by_induction base moves first next v.a v refl }
 
-one_more : (m : Machine) (rules : List RuleForm) (rule : RuleForm) → AllHold m rules → Holds m rule → AllHold m (rules ++ rule ∷ [])
+one_more : (m : Machine) (rules : List RuleForm) (rule : RuleForm) → AllHold m rules → RuleHolds m rule → AllHold m (rules ++ rule ∷ [])
 one_more m [] rule all holds = record { each = go }
   where
-    go : (k : ℕ) (other : RuleForm) → rule_at (rule ∷ []) k ≡ Some other → Holds m other
-    go zero other is = subst (Holds m) (same_Some rule other is) holds
+    go : (k : ℕ) (other : RuleForm) → rule_at (rule ∷ []) k ≡ Some other → RuleHolds m other
+    go zero other is = subst (RuleHolds m) (same_Some rule other is) holds
     go (suc k) other is = absurd (none-some other is)
 one_more m (first ∷ rules) rule all holds = put_first m first (rules ++ rule ∷ []) (all.each 0 first refl) (one_more m rules rule (record { each = λ k. all.each (suc k) }) holds)
   where
-    put_first : (m : Machine) (first : RuleForm) (rest : List RuleForm) → Holds m first → AllHold m rest → AllHold m (first ∷ rest)
+    put_first : (m : Machine) (first : RuleForm) (rest : List RuleForm) → RuleHolds m first → AllHold m rest → AllHold m (first ∷ rest)
     put_first m first rest holds all = record { each = go }
       where
-        go : (k : ℕ) (other : RuleForm) → rule_at (first ∷ rest) k ≡ Some other → Holds m other
-        go zero other is = subst (Holds m) (same_Some first other is) holds
+        go : (k : ℕ) (other : RuleForm) → rule_at (first ∷ rest) k ≡ Some other → RuleHolds m other
+        go zero other is = subst (RuleHolds m) (same_Some first other is) holds
         go (suc k) other is = all.each k other is
 
 pub all_hold : (m : Machine) (rules : List RuleForm) (ps : List Proved) → AllHold m rules → are_proved m rules ps ≡ true → AllHold m (rules ++ forms_of ps)

@@ -12,9 +12,9 @@ use Rattle.law_machines.proofs.Blanks.{same_repeat}
 use Rattle.law_induction.specs.declared.block.Block.{Block}
 use Rattle.law_induction.specs.declared.equation.Equation.{Equation}
 use Rattle.law_induction.specs.declared.equation.Equation.TheVariants.{Split, Spell, Roll, Power, Empty, Blank}
-use Rattle.law_induction.specs.Words.{Values, value, symbols, cells, symbols_eq, blocks_eq}
+use Rattle.law_induction.specs.Words.{Values, value, word_symbols, cells, symbols_eq, blocks_eq}
 use Rattle.law_induction.specs.Forms.{IsBeyond}
-use Rattle.law_induction.specs.Equations.{sum_of, product_of, Sides, sides, are_blanks, is_at_end, replaced, rewritten}
+use Rattle.law_induction.specs.Equations.{sum_of, product_of, Sides, sides, are_blanks, is_at_end, replaced, half_rewritten}
 use Rattle.law_induction.proofs.ValueLaws.{bound, tested, value_sum, value_product, same_blocks}
 use Rattle.law_induction.proofs.CellLaws.{repeat_add, repeat_rolled, repeat_power, cells_append, cells_once, cells_spelled, cells_never, blanks_same, same_symbols}
 
@@ -27,7 +27,7 @@ same_back l k s = record { cell = λ n. sym (s.cell n) }
 
 pub same_cells : (xs : List Block) (v : Values) (l k : List Sym) → SameCells l k → SameCells (cells xs v l) (cells xs v k)
 same_cells [] v l k s = s
-same_cells (x ∷ xs) v l k s = same_repeat (symbols x.word) (value x.times v) (cells xs v l) (cells xs v k) (same_cells xs v l k s)
+same_cells (x ∷ xs) v l k s = same_repeat (word_symbols x.word) (value x.times v) (cells xs v l) (cells xs v k) (same_cells xs v l k s)
 
 -- the two sides of an equation are the same
 pub record Agree (at_end : Bool) (old new : List Block) (v : Values) : Type 0 where
@@ -43,27 +43,27 @@ pub sides_agree : (e : Equation) (s : Sides) (v : Values) → sides e ≡ Some s
 unfolding sides
 sides_agree (Split w e f) s v is =
     let (t, sum, r) = bound (sum_of e f) _ s is in
-    agree_sides false _ s v r (agree_is false _ _ v (λ l. ap (λ n. repeat (symbols w) n l) (value_sum e f t v sum) ∙ repeat_add (symbols w) (value e v) (value f v) l))
+    agree_sides false _ s v r (agree_is false _ _ v (λ l. ap (λ n. repeat (word_symbols w) n l) (value_sum e f t v sum) ∙ repeat_add (word_symbols w) (value e v) (value f v) l))
 sides_agree (Spell w) s v is =
-    agree_sides false _ s v is (agree_is false _ _ v (λ l. cells_once w v l ∙ sym (cells_spelled (symbols w) v l)))
+    agree_sides false _ s v is (agree_is false _ _ v (λ l. cells_once w v l ∙ sym (cells_spelled (word_symbols w) v l)))
 sides_agree (Roll u w x e) s v is =
-    let (same, r) = tested (symbols_eq (symbols u ++ symbols w) (symbols x ++ symbols u)) _ s is in
+    let (same, r) = tested (symbols_eq (word_symbols u ++ word_symbols w) (word_symbols x ++ word_symbols u)) _ s is in
     agree_sides false _ s v r (agree_is false _ _ v (λ l.
-    cells_once u v (repeat (symbols w) (value e v) l) ∙
-    repeat_rolled (symbols u) (symbols w) (symbols x) (same_symbols _ _ same) (value e v) l ∙
-    ap (repeat (symbols x) (value e v)) (sym (cells_once u v l))))
+    cells_once u v (repeat (word_symbols w) (value e v) l) ∙
+    repeat_rolled (word_symbols u) (word_symbols w) (word_symbols x) (same_symbols _ _ same) (value e v) l ∙
+    ap (repeat (word_symbols x) (value e v)) (sym (cells_once u v l))))
 sides_agree (Power x w k e) s v is =
-    let (both, more) = tested (nat_le k 63 && symbols_eq (symbols x) (repeat (symbols w) k [])) _ s is in
+    let (both, more) = tested (nat_le k 63 && symbols_eq (word_symbols x) (repeat (word_symbols w) k [])) _ s is in
     let (few, same) = and_parts _ _ both in
     let (t, product, r) = bound (product_of k e) _ s more in
     agree_sides false _ s v r (agree_is false _ _ v (λ l.
-    repeat_power (symbols x) (symbols w) k (same_symbols _ _ same) (value e v) l ∙
-    ap (λ n. repeat (symbols w) n l) (sym (value_product k e t v product))))
-sides_agree (Empty w) s v is = agree_sides false _ s v is (agree_is false _ _ v (λ l. cells_never (symbols w) v l))
+    repeat_power (word_symbols x) (word_symbols w) k (same_symbols _ _ same) (value e v) l ∙
+    ap (λ n. repeat (word_symbols w) n l) (sym (value_product k e t v product))))
+sides_agree (Empty w) s v is = agree_sides false _ s v is (agree_is false _ _ v (λ l. cells_never (word_symbols w) v l))
 sides_agree (Blank w e) s v is =
-    let (are, r) = tested (are_blanks (symbols w)) _ s is in
+    let (are, r) = tested (are_blanks (word_symbols w)) _ s is in
     agree_sides true _ s v r (record {
-      same = λ l end. subst (λ x. SameCells (repeat (symbols w) (value e v) x) x) (sym (end refl)) (blanks_same (symbols w) (value e v) are);
+      same = λ l end. subst (λ x. SameCells (repeat (word_symbols w) (value e v) x) x) (sym (end refl)) (blanks_same (word_symbols w) (value e v) are);
     })
 
 -- and the other way round
@@ -105,8 +105,8 @@ replaced_same v l place old new xs ys is same =
     (in_place v l (take place xs) old new (drop (length old) (drop place xs)) same))
 
 pub rewritten_same : (at_end open_end : Bool) (v : Values) (l : List Sym) (place : ℕ) (old new xs ys : List Block) →
-    rewritten at_end open_end place old new xs ≡ Some ys → Agree at_end old new v → IsBeyond open_end l → SameCells (cells xs v l) (cells ys v l)
-unfolding rewritten
+    half_rewritten at_end open_end place old new xs ≡ Some ys → Agree at_end old new v → IsBeyond open_end l → SameCells (cells xs v l) (cells ys v l)
+unfolding half_rewritten
 rewritten_same false open_end v l place old new xs ys is agree beyond =
     replaced_same v l place old new xs ys is (agree.same _ (λ sure. absurd (false≢true sure)))
 rewritten_same true true v l place old new xs ys is agree beyond = absurd (none-some ys is)

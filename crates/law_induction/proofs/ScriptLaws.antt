@@ -10,10 +10,10 @@ use Rattle.law_machines.proofs.RuleLaws.{same, ◌⨾◌, ◌⨾⁺◌, ◌⁺�
 use Rattle.law_induction.specs.declared.block.Block.{Block}
 use Rattle.law_induction.specs.declared.moves.Move.{Move}
 use Rattle.law_induction.specs.declared.moves.Move.TheVariants.{Steps, Turn, Use, Again, Forth, Back}
-use Rattle.law_induction.specs.Words.{step_limit, block_limit, Values}
+use Rattle.law_induction.specs.Words.{step_limit, half_block_limit, Values}
 use Rattle.std.specs.Prelude.{nat_le, ◌&&◌}
-use Rattle.law_induction.specs.Forms.{Form, zipper_of, IsBeyond, RuleForm, HoldsAt, Holds}
-use Rattle.law_induction.specs.Equations.{sides, is_at_end, rewritten}
+use Rattle.law_induction.specs.Forms.{Form, zipper_of, IsBeyond, RuleForm, HoldsAt, RuleHolds}
+use Rattle.law_induction.specs.Equations.{sides, is_at_end, half_rewritten}
 use Rattle.law_induction.specs.Scripts.{steps_done, Setting, equals, again_by, rule_at, done, small, done_within, all_done, is_step, has_step}
 use Rattle.law_induction.proofs.ValueLaws.{tested, bound, values_by}
 use Rattle.law_induction.proofs.EquationLaws.{Agree, sides_agree, agree_back, rewritten_same, same_is}
@@ -22,7 +22,7 @@ use Rattle.law_induction.proofs.UseLaws.{used_comes}
 
 -- what a script may use holds
 pub record IsSound (s : Setting) (v : Values) : Type 0 where
-  pub rules : (k : ℕ) (rule : RuleForm) → rule_at s.rules k ≡ Some rule → Holds s.machine rule
+  pub rules : (k : ℕ) (rule : RuleForm) → rule_at s.rules k ≡ Some rule → RuleHolds s.machine rule
   pub again : (rule : RuleForm) → s.again ≡ Some rule → (w : Values) → w.a ≡ v.a → HoldsAt s.machine rule w
 
 module _ (s : Setting) (v : Values) (sound : IsSound s v) (l r : List Sym) (on_left : IsBeyond s.open_left l) (on_right : IsBeyond s.open_right r) where
@@ -30,11 +30,11 @@ module _ (s : Setting) (v : Values) (sound : IsSound s v) (l r : List Sym) (on_l
       equals s side place at_end old new f ≡ Some g → Comes s.machine (zipper_of f v l r) (zipper_of g v l r)
   unfolding equals
   equals_comes L place at_end old new f g agree is =
-      let (xs, to, end) = bound (rewritten at_end s.open_left place old new f.left) _ g is in
+      let (xs, to, end) = bound (half_rewritten at_end s.open_left place old new f.left) _ g is in
       same_faced s.machine f.heading f.state _ _ _ _ (rewritten_same at_end s.open_left v l place old new f.left xs to agree on_left) (same_is _ _ refl) ⨾
       same s.machine (ap (λ (f : Form). zipper_of f v l r) (same_Some _ _ end))
   equals_comes R place at_end old new f g agree is =
-      let (xs, to, end) = bound (rewritten at_end s.open_right place old new f.right) _ g is in
+      let (xs, to, end) = bound (half_rewritten at_end s.open_right place old new f.right) _ g is in
       same_faced s.machine f.heading f.state _ _ _ _ (same_is _ _ refl) (rewritten_same at_end s.open_right v r place old new f.right xs to agree on_right) ⨾
       same s.machine (ap (λ (f : Form). zipper_of f v l r) (same_Some _ _ end))
 
@@ -68,7 +68,7 @@ module _ (s : Setting) (v : Values) (sound : IsSound s v) (l r : List Sym) (on_l
   -- a form that isn't too long is itself
   small_is : (f g : Form) → small f ≡ Some g → f ≡ g
   unfolding small
-  small_is f g is = same_Some f g (tested (nat_le (length f.left) block_limit && nat_le (length f.right) block_limit) (Some f) g is).1
+  small_is f g is = same_Some f g (tested (nat_le (length f.left) half_block_limit && nat_le (length f.right) half_block_limit) (Some f) g is).1
 
   from_within : (x : Move) (f g : Form) → done_within s x f ≡ Some g → done s x f ≡ Some g
   unfolding done_within

@@ -18,7 +18,7 @@ use Rattle.law_machines.proofs.RuleLaws.{run⁺, same, weakened, ◌⨾◌, ◌�
 use Rattle.law_induction.specs.declared.block.Block.{Block}
 use Rattle.law_induction.specs.Words.{Values, single, block_eq, cells}
 use Rattle.law_induction.specs.Forms.{Form, faced, zipper_of}
-use Rattle.law_induction.specs.Scripts.{Taken, taken_of, taken, moved_by, entered, stepped_to, stepped, steps_done, turned_to, turned}
+use Rattle.law_induction.specs.Scripts.{Taken, taken_with, taken, moved_by, entered, stepped_to, form_stepped, steps_done, turned_to, form_turned}
 use Rattle.law_induction.proofs.ValueLaws.{bound, same_block}
 use Rattle.law_induction.proofs.CellLaws.{cells_single}
 
@@ -36,15 +36,15 @@ pub taken_cells : (xs : List Block) (t : Taken) (v : Values) (l : List Sym) → 
 unfolding taken
 taken_cells [] t v l is = absurd (none-some t is)
 taken_cells (x ∷ xs) t v l is =
-    elim (block_eq x (single Zero)) as (λ b. block_eq x (single Zero) ≡ b → (if b then Some (taken_of Zero xs) else if block_eq x (single One) then Some (taken_of One xs) else None) ≡ Some t → cells (x ∷ xs) v l ≡ t.symbol ∷ cells t.rest v l) [
+    elim (block_eq x (single Zero)) as (λ b. block_eq x (single Zero) ≡ b → (if b then Some (taken_with Zero xs) else if block_eq x (single One) then Some (taken_with One xs) else None) ≡ Some t → cells (x ∷ xs) v l ≡ t.symbol ∷ cells t.rest v l) [
       | true ↦ λ sure e. here Zero sure (same_Some _ _ e)
-      | false ↦ λ other e. elim (block_eq x (single One)) as (λ b. block_eq x (single One) ≡ b → (if b then Some (taken_of One xs) else None) ≡ Some t → cells (x ∷ xs) v l ≡ t.symbol ∷ cells t.rest v l) [
+      | false ↦ λ other e. elim (block_eq x (single One)) as (λ b. block_eq x (single One) ≡ b → (if b then Some (taken_with One xs) else None) ≡ Some t → cells (x ∷ xs) v l ≡ t.symbol ∷ cells t.rest v l) [
         | true ↦ λ sure e. here One sure (same_Some _ _ e)
         | false ↦ λ other e. absurd (none-some t e)
       ] refl e
     ] refl is
   where
-    here : (s : Sym) → block_eq x (single s) ≡ true → taken_of s xs ≡ t → cells (x ∷ xs) v l ≡ t.symbol ∷ cells t.rest v l
+    here : (s : Sym) → block_eq x (single s) ≡ true → taken_with s xs ≡ t → cells (x ∷ xs) v l ≡ t.symbol ∷ cells t.rest v l
     here s sure e =
         ap (λ y. cells (y ∷ xs) v l) (same_block x (single s) sure) ∙ cells_single s v (cells xs v l) ∙ ap (λ (t : Taken). t.symbol ∷ cells t.rest v l) e
 
@@ -81,8 +81,8 @@ stepped_goes m R q left right g v l r is =
     (step_right m q (cells left v l) (cells t.rest v r) t.symbol e entry ⁺⨾
     same m (moved_is e.dir e left t.rest v l r ∙ ap (λ (f : Form). zipper_of f v l r) to))
 
-one_step : (m : Machine) (f g : Form) (v : Values) (l r : List Sym) → stepped m f ≡ Some g → Goes m (zipper_of f v l r) (zipper_of g v l r)
-unfolding stepped
+one_step : (m : Machine) (f g : Form) (v : Values) (l r : List Sym) → form_stepped m f ≡ Some g → Goes m (zipper_of f v l r) (zipper_of g v l r)
+unfolding form_stepped
 one_step m f g v l r is = stepped_goes m f.heading f.state f.left f.right g v l r is
 
 -- so many
@@ -90,13 +90,13 @@ pub steps_come : (m : Machine) (n : ℕ) (f g : Form) (v : Values) (l r : List S
 unfolding steps_done
 steps_come m zero f g v l r is = same m (ap (λ (f : Form). zipper_of f v l r) (same_Some f g is))
 steps_come m (suc n) f g v l r is =
-    let (h, one, rest) = bound (stepped m f) (steps_done m n) g is in
+    let (h, one, rest) = bound (form_stepped m f) (steps_done m n) g is in
     weakened (one_step m f h v l r one) ⨾ steps_come m n h g v l r rest
 
 pub steps_go : (m : Machine) (n : ℕ) (f g : Form) (v : Values) (l r : List Sym) → steps_done m (suc n) f ≡ Some g → Goes m (zipper_of f v l r) (zipper_of g v l r)
 unfolding steps_done
 steps_go m n f g v l r is =
-    let (h, one, rest) = bound (stepped m f) (steps_done m n) g is in
+    let (h, one, rest) = bound (form_stepped m f) (steps_done m n) g is in
     one_step m f h v l r one ⁺⨾ steps_come m n h g v l r rest
 
 -- the head turned: the same configuration, whose right half begins one cell further
@@ -141,6 +141,6 @@ turned_comes_to m R q left right g v l r is =
     same m (ap (AtRight (cells left v l) q) (taken_cells right t v r took)) ⨾ (turn ⨾
     same m (ap (λ x. AtLeft x q (cells t.rest v r)) (sym (cells_single t.symbol v (cells left v l))) ∙ ap (λ (f : Form). zipper_of f v l r) (same_Some _ _ more)))
 
-pub turned_comes : (m : Machine) (f g : Form) (v : Values) (l r : List Sym) → turned f ≡ Some g → Comes m (zipper_of f v l r) (zipper_of g v l r)
-unfolding turned
+pub turned_comes : (m : Machine) (f g : Form) (v : Values) (l r : List Sym) → form_turned f ≡ Some g → Comes m (zipper_of f v l r) (zipper_of g v l r)
+unfolding form_turned
 turned_comes m f g v l r is = turned_comes_to m f.heading f.state f.left f.right g v l r is

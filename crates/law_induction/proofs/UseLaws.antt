@@ -10,9 +10,9 @@ use Rattle.law_turing.specs.Machine.{Machine}
 use Rattle.law_machines.specs.Rules.{Comes}
 use Rattle.law_machines.specs.Words.{repeat}
 use Rattle.law_machines.proofs.RuleLaws.{same, ◌⨾◌}
-use Rattle.law_induction.specs.declared.block.Four.{Four}
+use Rattle.law_induction.specs.declared.block.Exponents.{Exponents}
 use Rattle.law_induction.specs.declared.block.Block.{Block}
-use Rattle.law_induction.specs.Words.{Values, value, symbols, cells, blocks_eq}
+use Rattle.law_induction.specs.Words.{Values, value, word_symbols, cells, blocks_eq}
 use Rattle.law_induction.specs.Forms.{Form, faced, zipper_of, IsBeyond, RuleForm, HoldsAt}
 use Rattle.law_induction.specs.Equations.{substituted, instance_of}
 use Rattle.law_induction.specs.Scripts.{used_half, half_by, same_side, used}
@@ -20,15 +20,15 @@ use Rattle.law_induction.proofs.ValueLaws.{bound, tested, values_by, value_subst
 use Rattle.law_induction.proofs.CellLaws.{cells_append}
 use Rattle.law_induction.proofs.EquationLaws.{replaced_parts}
 
-pub cells_instance : (by : Four) (xs ys : List Block) (v : Values) (l : List Sym) → instance_of by xs ≡ Some ys → cells ys v l ≡ cells xs (values_by by v) l
+pub cells_instance : (by : Exponents) (xs ys : List Block) (v : Values) (l : List Sym) → instance_of by xs ≡ Some ys → cells ys v l ≡ cells xs (values_by by v) l
 unfolding instance_of
 cells_instance by [] ys v l is = ap (λ x. cells x v l) (sym (same_Some _ _ is))
 cells_instance by (x ∷ xs) ys v l is =
     let (t, times, more) = bound (substituted x.times by) _ ys is in
     let (rest, tail, end) = bound (instance_of by xs) _ ys more in
     ap (λ y. cells y v l) (sym (same_Some _ _ end)) ∙
-    ap (λ n. repeat (symbols x.word) n (cells rest v l)) (value_substituted x.times by t v times) ∙
-    ap (repeat (symbols x.word) (value x.times (values_by by v))) (cells_instance by xs rest v l tail)
+    ap (λ n. repeat (word_symbols x.word) n (cells rest v l)) (value_substituted x.times by t v times) ∙
+    ap (repeat (word_symbols x.word) (value x.times (values_by by v))) (cells_instance by xs rest v l tail)
 
 -- a half tape on which a rule is used: what is beyond the rule's end
 pub record Beyond (rule_open : Bool) (v : Values) (l : List Sym) (old new xs ys : List Block) : Type 0 where
@@ -58,7 +58,7 @@ used_beyond false false v l old new xs ys is beyond =
       after = ap (λ x. cells x v l) (sym (same_Some new ys r));
     }
 
-half_beyond : (by : Four) (rule_open open_end : Bool) (v : Values) (l : List Sym) (old new xs ys : List Block) → half_by by rule_open open_end old new xs ≡ Some ys →
+half_beyond : (by : Exponents) (rule_open open_end : Bool) (v : Values) (l : List Sym) (old new xs ys : List Block) → half_by by rule_open open_end old new xs ≡ Some ys →
     IsBeyond open_end l →
     (rest : List Sym) × IsBeyond rule_open rest × (cells xs v l ≡ cells old (values_by by v) rest) × (cells ys v l ≡ cells new (values_by by v) rest)
 unfolding half_by
@@ -78,7 +78,7 @@ pub zipper_same : (h k : Dir) (p q : ℕ) (l a r b : List Sym) → h ≡ k → p
 zipper_same h k p q l a r b eh eq el er =
     ap (λ x. faced x l p r) eh ∙ ap (λ x. faced k l x r) eq ∙ ap (λ x. faced k x q r) el ∙ ap (λ x. faced k a q x) er
 
-pub used_comes : (m : Machine) (rule : RuleForm) (by : Four) (open_left open_right : Bool) (f g : Form) (v : Values) (l r : List Sym) →
+pub used_comes : (m : Machine) (rule : RuleForm) (by : Exponents) (open_left open_right : Bool) (f g : Form) (v : Values) (l r : List Sym) →
     HoldsAt m rule (values_by by v) → used rule by open_left open_right f ≡ Some g → IsBeyond open_left l → IsBeyond open_right r →
     Comes m (zipper_of f v l r) (zipper_of g v l r)
 unfolding used

@@ -3,12 +3,12 @@ use Rattle.std.specs.Prelude.{ℕ, ◌+◌, ◌*◌, ◌==◌, ◌&&◌, ◌||�
 use Rattle.machine_text.specs.declared.transition.Sym.{Sym}
 use Rattle.machine_text.specs.declared.transition.Sym.TheVariants.{Zero, One}
 use Rattle.law_machines.specs.Words.{repeat}
-use Rattle.law_induction.specs.declared.block.Times.{Times}
-use Rattle.law_induction.specs.declared.block.Four.{Four}
+use Rattle.law_induction.specs.declared.block.Exponent.{Exponent}
+use Rattle.law_induction.specs.declared.block.Exponents.{Exponents}
 use Rattle.law_induction.specs.declared.block.Block.{Block}
 use Rattle.law_induction.specs.declared.equation.Equation.{Equation}
 use Rattle.law_induction.specs.declared.equation.Equation.TheVariants.{Split, Spell, Roll, Power, Empty, Blank}
-use Rattle.law_induction.specs.Words.{number_limit, times_of, never_once, once, symbols, block_of, single, blocks_eq, symbols_eq}
+use Rattle.law_induction.specs.Words.{exponent_limit, times_with, never_once, one_time, word_symbols, block_of, single, blocks_eq, symbols_eq}
 
 infixl 10 ◌>>=◌
 abbrev pub ◌>>=◌ : {A B : Type 0} → Option A → (A → Option B) → Option B
@@ -16,33 +16,33 @@ None >>= f = None
 (Some a) >>= f = f a
 
 -- a number that isn't too large
-unfoldable pub number : ℕ → Option ℕ
-number n = if nat_le n number_limit then Some n else None
+unfoldable pub within_limit : ℕ → Option ℕ
+within_limit n = if nat_le n exponent_limit then Some n else None
 
 -- sums and multiples
-abbrev pub plus : Times → Times → Times
-plus s t = times_of (s.ones + t.ones) (s.a + t.a) (s.b + t.b) (s.c + t.c) (s.d + t.d)
+abbrev pub plus : Exponent → Exponent → Exponent
+plus s t = times_with (s.ones + t.ones) (s.a + t.a) (s.b + t.b) (s.c + t.c) (s.d + t.d)
 
-abbrev pub scaled : ℕ → Times → Times
-scaled k t = times_of (k * t.ones) (k * t.a) (k * t.b) (k * t.c) (k * t.d)
+abbrev pub scaled : ℕ → Exponent → Exponent
+scaled k t = times_with (k * t.ones) (k * t.a) (k * t.b) (k * t.c) (k * t.d)
 
-unfoldable pub sum_of : Times → Times → Option Times
+unfoldable pub sum_of : Exponent → Exponent → Option Exponent
 sum_of s t =
-    number (s.ones + t.ones) >>= λ n. number (s.a + t.a) >>= λ a. number (s.b + t.b) >>= λ b. number (s.c + t.c) >>= λ c.
-    number (s.d + t.d) >>= λ d. Some (times_of n a b c d)
+    within_limit (s.ones + t.ones) >>= λ n. within_limit (s.a + t.a) >>= λ a. within_limit (s.b + t.b) >>= λ b.
+    within_limit (s.c + t.c) >>= λ c. within_limit (s.d + t.d) >>= λ d. Some (times_with n a b c d)
 
-unfoldable pub product_of : ℕ → Times → Option Times
+unfoldable pub product_of : ℕ → Exponent → Option Exponent
 product_of k t =
-    number (k * t.ones) >>= λ n. number (k * t.a) >>= λ a. number (k * t.b) >>= λ b. number (k * t.c) >>= λ c.
-    number (k * t.d) >>= λ d. Some (times_of n a b c d)
+    within_limit (k * t.ones) >>= λ n. within_limit (k * t.a) >>= λ a. within_limit (k * t.b) >>= λ b.
+    within_limit (k * t.c) >>= λ c. within_limit (k * t.d) >>= λ d. Some (times_with n a b c d)
 
 -- others in place of the variables
-unfoldable pub substituted : Times → Four → Option Times
+unfoldable pub substituted : Exponent → Exponents → Option Exponent
 substituted t by =
     product_of t.a by.a >>= λ a. product_of t.b by.b >>= λ b. product_of t.c by.c >>= λ c. product_of t.d by.d >>= λ d.
-    sum_of c d >>= λ cd. sum_of b cd >>= λ bcd. sum_of a bcd >>= λ abcd. sum_of (times_of t.ones 0 0 0 0) abcd
+    sum_of c d >>= λ cd. sum_of b cd >>= λ bcd. sum_of a bcd >>= λ abcd. sum_of (times_with t.ones 0 0 0 0) abcd
 
-unfoldable pub instance_of : Four → List Block → Option (List Block)
+unfoldable pub instance_of : Exponents → List Block → Option (List Block)
 instance_of by [] = Some []
 instance_of by (x ∷ xs) = substituted x.times by >>= λ t. instance_of by xs >>= λ rest. Some (block_of x.word t ∷ rest)
 
@@ -61,15 +61,15 @@ are_blanks (One ∷ l) = false
 
 unfoldable pub sides : Equation → Option Sides
 sides (Split w e f) = sum_of e f >>= λ t. Some (sides_of (block_of w t ∷ []) (block_of w e ∷ block_of w f ∷ []))
-sides (Spell w) = Some (sides_of (block_of w once ∷ []) (map single (symbols w)))
+sides (Spell w) = Some (sides_of (block_of w one_time ∷ []) (map single (word_symbols w)))
 sides (Roll u w v e) =
-    if symbols_eq (symbols u ++ symbols w) (symbols v ++ symbols u) then Some
-    (sides_of (block_of u once ∷ block_of w e ∷ []) (block_of v e ∷ block_of u once ∷ [])) else None
+    if symbols_eq (word_symbols u ++ word_symbols w) (word_symbols v ++ word_symbols u) then Some
+    (sides_of (block_of u one_time ∷ block_of w e ∷ []) (block_of v e ∷ block_of u one_time ∷ [])) else None
 sides (Power v w k e) =
-    if nat_le k 63 && symbols_eq (symbols v) (repeat (symbols w) k []) then
+    if nat_le k 63 && symbols_eq (word_symbols v) (repeat (word_symbols w) k []) then
     (product_of k e >>= λ t. Some (sides_of (block_of v e ∷ []) (block_of w t ∷ []))) else None
 sides (Empty w) = Some (sides_of (block_of w never_once ∷ []) [])
-sides (Blank w e) = if are_blanks (symbols w) then Some (sides_of (block_of w e ∷ []) []) else None
+sides (Blank w e) = if are_blanks (word_symbols w) then Some (sides_of (block_of w e ∷ []) []) else None
 
 -- whether it holds at a blank end alone
 abbrev pub is_at_end : Equation → Bool
@@ -87,6 +87,6 @@ replaced place old new xs =
     (take place xs ++ (new ++ drop (length old) (drop place xs))) else None
 
 -- an equation used on a half tape
-unfoldable pub rewritten : Bool → Bool → ℕ → List Block → List Block → List Block → Option (List Block)
-rewritten at_end open_end place old new xs =
+unfoldable pub half_rewritten : Bool → Bool → ℕ → List Block → List Block → List Block → Option (List Block)
+half_rewritten at_end open_end place old new xs =
     if not at_end || (not open_end && (place + length old == length xs)) then replaced place old new xs else None

@@ -16,8 +16,8 @@ pub record Form : Type 0 where
   pub heading : Dir
   pub right : List Block
 
-abbrev pub form_of : List Block → ℕ → Dir → List Block → Form
-form_of left state heading right = record { left = left; state = state; heading = heading; right = right }
+abbrev pub form_with : List Block → ℕ → Dir → List Block → Form
+form_with left state heading right = record { left = left; state = state; heading = heading; right = right }
 
 abbrev pub faced : Dir → List Sym → ℕ → List Sym → Zipper
 faced L l q r = AtLeft l q r
@@ -43,5 +43,5 @@ pub record HoldsAt (m : Machine) (rule : RuleForm) (v : Values) : Type 0 where
   pub run : (l r : List Sym) → IsBeyond rule.open_left l → IsBeyond rule.open_right r →
       Comes m (zipper_of rule.from v l r) (zipper_of rule.to v l r)
 
-pub record Holds (m : Machine) (rule : RuleForm) : Type 0 where
+pub record RuleHolds (m : Machine) (rule : RuleForm) : Type 0 where
   pub at : (v : Values) → HoldsAt m rule v

@@ -2,11 +2,11 @@
 use Rattle.std.specs.Prelude.{ℕ, ◌+◌, nat_le, ◌==◌, ◌&&◌, Bool, true, false, List, [], ◌∷◌, ◌++◌, Option, Some, None}
 use Rattle.machine_text.specs.declared.transition.Dir.TheVariants.{R}
 use Rattle.law_turing.specs.Machine.{Machine}
-use Rattle.law_induction.specs.declared.block.Times.{Times}
-use Rattle.law_induction.specs.declared.block.Four.{Four}
+use Rattle.law_induction.specs.declared.block.Exponent.{Exponent}
+use Rattle.law_induction.specs.declared.block.Exponents.{Exponents}
 use Rattle.law_induction.specs.declared.moves.Move.{Move}
-use Rattle.law_induction.specs.Words.{all_steps_limit, times_of, never_once, blocks_eq}
-use Rattle.law_induction.specs.Forms.{Form, form_of, RuleForm}
+use Rattle.law_induction.specs.Words.{all_steps_limit, times_with, never_once, blocks_eq}
+use Rattle.law_induction.specs.Forms.{Form, form_with, RuleForm}
 use Rattle.law_induction.specs.Equations.{◌>>=◌, instance_of}
 use Rattle.law_induction.specs.Scripts.{Setting, same_side, all_done, has_step, steps_in}
 
@@ -21,47 +21,50 @@ pub record Proved : Type 0 where
 pub record Certificate : Type 0 where
   pub rules : List Proved
   pub family : Form
-  pub first : Four
+  pub first : Exponents
   pub begin : List Move
-  pub next : Four
+  pub next : Exponents
   pub loop : List Move
 
-unfoldable pub form_by : Four → Form → Option Form
+unfoldable pub form_by : Exponents → Form → Option Form
 form_by by f = instance_of by f.left >>= λ left. instance_of by f.right >>= λ right.
-    Some (form_of left f.state f.heading right)
+    Some (form_with left f.state f.heading right)
 
 abbrev pub form_eq : Form → Form → Bool
-form_eq f g = (f.state == g.state) && (same_side f.heading g.heading && (blocks_eq f.left g.left && blocks_eq f.right g.right))
+form_eq f g =
+    (f.state == g.state)
+    && (same_side f.heading g.heading && (blocks_eq f.left g.left && blocks_eq f.right g.right))
 
 -- whether a script leads from one form to another
 abbrev pub arrives : Option Form → Form → Bool
 arrives None g = false
 arrives (Some f) g = form_eq f g
 
-unfoldable pub leads : Setting → List Move → Form → Form → Bool
-leads s moves f g = arrives (all_done s moves f) g
+unfoldable pub script_leads : Setting → List Move → Form → Form → Bool
+script_leads s moves f g = arrives (all_done s moves f) g
 
 -- and for others in place of the variables
 abbrev pub leads_from : Setting → List Move → Option Form → Option Form → Bool
 leads_from s moves None g = false
 leads_from s moves (Some f) None = false
-leads_from s moves (Some f) (Some g) = leads s moves f g
+leads_from s moves (Some f) (Some g) = script_leads s moves f g
 
-unfoldable pub leads_by : Setting → Four → List Move → RuleForm → Bool
+unfoldable pub leads_by : Setting → Exponents → List Move → RuleForm → Bool
 leads_by s by moves rule = leads_from s moves (form_by by rule.from) (form_by by rule.to)
 
-abbrev pub with_a : Times → Four
-with_a a = record { a = a; b = times_of 0 0 1 0 0; c = times_of 0 0 0 1 0; d = times_of 0 0 0 0 1 }
+abbrev pub with_a : Exponent → Exponents
+with_a a = record { a = a; b = times_with 0 0 1 0 0; c = times_with 0 0 0 1 0; d = times_with 0 0 0 0 1 }
 
 abbrev pub setting : Machine → List RuleForm → Option RuleForm → Bool → Bool → Setting
 setting m rules again open_left open_right =
     record { machine = m; rules = rules; again = again; open_left = open_left; open_right = open_right }
 
 unfoldable pub is_proved_by : Machine → List RuleForm → RuleForm → Option (List Move) → List Move → Bool
-is_proved_by m rules rule None moves = leads (setting m rules None rule.open_left rule.open_right) moves rule.from rule.to
+is_proved_by m rules rule None moves =
+    script_leads (setting m rules None rule.open_left rule.open_right) moves rule.from rule.to
 is_proved_by m rules rule (Some base) moves =
     leads_by (setting m rules None rule.open_left rule.open_right) (with_a never_once) base rule
-    && leads_by (setting m rules (Some rule) rule.open_left rule.open_right) (with_a (times_of 1 1 0 0 0)) moves rule
+    && leads_by (setting m rules (Some rule) rule.open_left rule.open_right) (with_a (times_with 1 1 0 0 0)) moves rule
 
 -- whether all are proved, each by those before it
 unfoldable pub are_proved : Machine → List RuleForm → List Proved → Bool
@@ -73,7 +76,7 @@ forms_of [] = []
 forms_of (p ∷ ps) = p.rule ∷ forms_of ps
 
 abbrev pub blank_form : Form
-blank_form = form_of [] 0 R []
+blank_form = form_with [] 0 R []
 
 -- how many steps of the machine a certificate has, in all its scripts
 abbrev pub base_steps : Option (List Move) → ℕ

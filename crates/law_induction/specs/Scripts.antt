@@ -6,34 +6,34 @@ use Rattle.machine_text.specs.declared.transition.Dir.{Dir}
 use Rattle.machine_text.specs.declared.transition.Dir.TheVariants.{L, R}
 use Rattle.machine_text.specs.declared.transition.Entry.{Entry}
 use Rattle.law_turing.specs.Machine.{Machine}
-use Rattle.law_induction.specs.declared.block.Times.{Times}
-use Rattle.law_induction.specs.declared.block.Four.{Four}
+use Rattle.law_induction.specs.declared.block.Exponent.{Exponent}
+use Rattle.law_induction.specs.declared.block.Exponents.{Exponents}
 use Rattle.law_induction.specs.declared.block.Block.{Block}
 use Rattle.law_induction.specs.declared.moves.Move.{Move}
 use Rattle.law_induction.specs.declared.moves.Move.TheVariants.{Steps, Turn, Use, Again, Forth, Back}
-use Rattle.law_induction.specs.Words.{step_limit, block_limit, times_of, single, block_eq, blocks_eq}
-use Rattle.law_induction.specs.Forms.{Form, form_of, RuleForm}
-use Rattle.law_induction.specs.Equations.{◌>>=◌, instance_of, sides, is_at_end, replaced, rewritten}
+use Rattle.law_induction.specs.Words.{step_limit, half_block_limit, times_with, single, block_eq, blocks_eq}
+use Rattle.law_induction.specs.Forms.{Form, form_with, RuleForm}
+use Rattle.law_induction.specs.Equations.{◌>>=◌, instance_of, sides, is_at_end, replaced, half_rewritten}
 
 -- the symbol under the head, where it stands there by itself, and what is behind it
 pub record Taken : Type 0 where
   pub symbol : Sym
   pub rest : List Block
 
-abbrev pub taken_of : Sym → List Block → Taken
-taken_of s rest = record { symbol = s; rest = rest }
+abbrev pub taken_with : Sym → List Block → Taken
+taken_with s rest = record { symbol = s; rest = rest }
 
 unfoldable pub taken : List Block → Option Taken
 taken [] = None
 taken (x ∷ xs) =
-    if block_eq x (single Zero) then Some (taken_of Zero xs)
-    else if block_eq x (single One) then Some (taken_of One xs)
+    if block_eq x (single Zero) then Some (taken_with Zero xs)
+    else if block_eq x (single One) then Some (taken_with One xs)
     else None
 
 -- one step of the machine: the head is on a symbol, with these blocks on its two sides
 abbrev pub moved_by : Dir → Entry → List Block → List Block → Form
-moved_by L e left right = form_of left e.next.0 L (single e.write ∷ right)
-moved_by R e left right = form_of (single e.write ∷ left) e.next.0 R right
+moved_by L e left right = form_with left e.next.0 L (single e.write ∷ right)
+moved_by R e left right = form_with (single e.write ∷ left) e.next.0 R right
 
 abbrev pub entered : Option Entry → List Block → List Block → Option Form
 entered None left right = None
@@ -43,20 +43,20 @@ abbrev pub stepped_to : Dir → Machine → ℕ → List Block → List Block �
 stepped_to L m q left right = taken left >>= λ t. entered (m q t.symbol) t.rest right
 stepped_to R m q left right = taken right >>= λ t. entered (m q t.symbol) left t.rest
 
-unfoldable pub stepped : Machine → Form → Option Form
-stepped m f = stepped_to f.heading m f.state f.left f.right
+unfoldable pub form_stepped : Machine → Form → Option Form
+form_stepped m f = stepped_to f.heading m f.state f.left f.right
 
 unfoldable pub steps_done : Machine → ℕ → Form → Option Form
 steps_done m zero f = Some f
-steps_done m (suc n) f = stepped m f >>= steps_done m n
+steps_done m (suc n) f = form_stepped m f >>= steps_done m n
 
 -- the head turned
 abbrev pub turned_to : Dir → ℕ → List Block → List Block → Option Form
-turned_to L q left right = taken left >>= λ t. Some (form_of t.rest q R (single t.symbol ∷ right))
-turned_to R q left right = taken right >>= λ t. Some (form_of (single t.symbol ∷ left) q L t.rest)
+turned_to L q left right = taken left >>= λ t. Some (form_with t.rest q R (single t.symbol ∷ right))
+turned_to R q left right = taken right >>= λ t. Some (form_with (single t.symbol ∷ left) q L t.rest)
 
-unfoldable pub turned : Form → Option Form
-turned f = turned_to f.heading f.state f.left f.right
+unfoldable pub form_turned : Form → Option Form
+form_turned f = turned_to f.heading f.state f.left f.right
 
 -- a rule used
 unfoldable pub used_half : Bool → Bool → List Block → List Block → List Block → Option (List Block)
@@ -66,7 +66,7 @@ used_half rule_open open_end old new xs =
     else if blocks_eq xs old then Some new
     else None
 
-unfoldable pub half_by : Four → Bool → Bool → List Block → List Block → List Block → Option (List Block)
+unfoldable pub half_by : Exponents → Bool → Bool → List Block → List Block → List Block → Option (List Block)
 half_by by rule_open open_end old new xs =
     instance_of by old >>= λ x. instance_of by new >>= λ y. used_half rule_open open_end x y xs
 
@@ -76,12 +76,12 @@ same_side L R = false
 same_side R L = false
 same_side R R = true
 
-unfoldable pub used : RuleForm → Four → Bool → Bool → Form → Option Form
+unfoldable pub used : RuleForm → Exponents → Bool → Bool → Form → Option Form
 used rule by open_left open_right f =
     if (f.state == rule.from.state) && same_side f.heading rule.from.heading then
     (half_by by rule.open_left open_left rule.from.left rule.to.left f.left >>= λ left.
     half_by by rule.open_right open_right rule.from.right rule.to.right f.right >>= λ right.
-    Some (form_of left rule.to.state rule.to.heading right)) else None
+    Some (form_with left rule.to.state rule.to.heading right)) else None
 
 -- what a script may use: the earlier rules, the rule that is being proved by induction, and which ends are open
 pub record Setting : Type 0 where
@@ -93,12 +93,12 @@ pub record Setting : Type 0 where
 
 -- a new half tape
 abbrev pub with_side : Dir → List Block → Form → Form
-with_side L xs f = form_of xs f.state f.heading f.right
-with_side R xs f = form_of f.left f.state f.heading xs
+with_side L xs f = form_with xs f.state f.heading f.right
+with_side R xs f = form_with f.left f.state f.heading xs
 
-abbrev pub side_of : Dir → Form → List Block
-side_of L f = f.left
-side_of R f = f.right
+abbrev pub half_of : Dir → Form → List Block
+half_of L f = f.left
+half_of R f = f.right
 
 abbrev pub open_on : Dir → Setting → Bool
 open_on L s = s.open_left
@@ -106,11 +106,11 @@ open_on R s = s.open_right
 
 unfoldable pub equals : Setting → Dir → ℕ → Bool → List Block → List Block → Form → Option Form
 equals s side place at_end old new f =
-    rewritten at_end (open_on side s) place old new (side_of side f) >>= λ xs. Some (with_side side xs f)
+    half_rewritten at_end (open_on side s) place old new (half_of side f) >>= λ xs. Some (with_side side xs f)
 
 -- the variable a for itself
-abbrev pub again_by : Times → Times → Times → Four
-again_by b c d = record { a = times_of 0 1 0 0 0; b = b; c = c; d = d }
+abbrev pub again_by : Exponent → Exponent → Exponent → Exponents
+again_by b c d = record { a = times_with 0 1 0 0 0; b = b; c = c; d = d }
 
 -- a rule by its number
 abbrev pub rule_at : List RuleForm → ℕ → Option RuleForm
@@ -121,7 +121,7 @@ rule_at (r ∷ rs) (suc k) = rule_at rs k
 -- one move, and a whole script
 unfoldable pub done : Setting → Move → Form → Option Form
 done s (Steps n) f = if nat_le n step_limit then steps_done s.machine n f else None
-done s Turn f = turned f
+done s Turn f = form_turned f
 done s (Use k by) f = rule_at s.rules k >>= λ rule. used rule by s.open_left s.open_right f
 done s (Again b c d) f = s.again >>= λ rule. used rule (again_by b c d) s.open_left s.open_right f
 done s (Forth side place e) f = sides e >>= λ x. equals s side place (is_at_end e) x.before x.after f
@@ -129,7 +129,7 @@ done s (Back side place e) f = sides e >>= λ x. equals s side place (is_at_end 
 
 -- a form that isn't too long, and a move from one
 unfoldable pub small : Form → Option Form
-small f = if nat_le (length f.left) block_limit && nat_le (length f.right) block_limit then Some f else None
+small f = if nat_le (length f.left) half_block_limit && nat_le (length f.right) half_block_limit then Some f else None
 
 unfoldable pub done_within : Setting → Move → Form → Option Form
 done_within s x f = small f >>= done s x
@@ -153,14 +153,14 @@ has_step [] = false
 has_step (x ∷ xs) = is_step x || has_step xs
 
 -- how many steps of the machine it has
-abbrev pub steps_of : Move → ℕ
-steps_of (Steps n) = n
-steps_of Turn = 0
-steps_of (Use k by) = 0
-steps_of (Again b c d) = 0
-steps_of (Forth side place e) = 0
-steps_of (Back side place e) = 0
+abbrev pub move_steps : Move → ℕ
+move_steps (Steps n) = n
+move_steps Turn = 0
+move_steps (Use k by) = 0
+move_steps (Again b c d) = 0
+move_steps (Forth side place e) = 0
+move_steps (Back side place e) = 0
 
 abbrev pub steps_in : List Move → ℕ
 steps_in [] = 0
-steps_in (x ∷ xs) = steps_of x + steps_in xs
+steps_in (x ∷ xs) = move_steps x + steps_in xs

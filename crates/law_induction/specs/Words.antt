@@ -4,7 +4,7 @@ use Rattle.std.specs.Cmp.Lexicographic.{pointwise}
 use Rattle.machine_text.specs.declared.transition.Sym.{Sym}
 use Rattle.machine_text.specs.declared.transition.Sym.TheVariants.{Zero, One}
 use Rattle.law_machines.specs.Words.{repeat}
-use Rattle.law_induction.specs.declared.block.Times.{Times}
+use Rattle.law_induction.specs.declared.block.Exponent.{Exponent}
 use Rattle.law_induction.specs.declared.block.Block.{Block}
 
 -- the most steps of one move, and of all moves of a certificate together
@@ -15,12 +15,12 @@ unfoldable pub all_steps_limit : ℕ
 all_steps_limit = 2000000
 
 -- the most blocks of a half tape
-unfoldable pub block_limit : ℕ
-block_limit = 2000
+unfoldable pub half_block_limit : ℕ
+half_block_limit = 2000
 
 -- the greatest number that may come up
-unfoldable pub number_limit : ℕ
-number_limit = 1000000
+unfoldable pub exponent_limit : ℕ
+exponent_limit = 1000000
 
 -- numbers for the variables
 pub record Values : Type 0 where
@@ -30,17 +30,17 @@ pub record Values : Type 0 where
   pub d : ℕ
 
 -- how often that is
-abbrev pub value : Times → Values → ℕ
+abbrev pub value : Exponent → Values → ℕ
 value t v = t.ones + (t.a * v.a + (t.b * v.b + (t.c * v.c + t.d * v.d)))
 
-abbrev pub times_of : ℕ → ℕ → ℕ → ℕ → ℕ → Times
-times_of n a b c d = record { ones = n; a = a; b = b; c = c; d = d }
+abbrev pub times_with : ℕ → ℕ → ℕ → ℕ → ℕ → Exponent
+times_with n a b c d = record { ones = n; a = a; b = b; c = c; d = d }
 
-abbrev pub never_once : Times
-never_once = times_of 0 0 0 0 0
+abbrev pub never_once : Exponent
+never_once = times_with 0 0 0 0 0
 
-abbrev pub once : Times
-once = times_of 1 0 0 0 0
+abbrev pub one_time : Exponent
+one_time = times_with 1 0 0 0 0
 
 -- the symbols of a word: its digits behind the leading one, the last digit first
 abbrev pub digit : ℕ → Sym
@@ -51,10 +51,10 @@ abbrev pub symbols_in : ℕ → ℕ → List Sym
 symbols_in zero n = []
 symbols_in (suc more) n = if nat_le n 1 then [] else digit (n % 2) ∷ symbols_in more (n / 2)
 
-unfoldable pub symbols : ℕ → List Sym
-symbols word = symbols_in 63 word
+unfoldable pub word_symbols : ℕ → List Sym
+word_symbols word = symbols_in 63 word
 
-abbrev pub block_of : ℕ → Times → Block
+abbrev pub block_of : ℕ → Exponent → Block
 block_of word times = record { word = word; times = times }
 
 -- the word of one symbol, once
@@ -63,15 +63,15 @@ single_word Zero = 2
 single_word One = 3
 
 abbrev pub single : Sym → Block
-single s = block_of (single_word s) once
+single s = block_of (single_word s) one_time
 
 -- the cells of blocks before a half tape
 abbrev pub cells : List Block → Values → List Sym → List Sym
 cells [] v l = l
-cells (b ∷ bs) v l = repeat (symbols b.word) (value b.times v) (cells bs v l)
+cells (b ∷ bs) v l = repeat (word_symbols b.word) (value b.times v) (cells bs v l)
 
 -- whether blocks, symbols are the same
-abbrev pub times_eq : Times → Times → Bool
+abbrev pub times_eq : Exponent → Exponent → Bool
 times_eq s t = (s.ones == t.ones) && ((s.a == t.a) && ((s.b == t.b) && ((s.c == t.c) && (s.d == t.d))))
 
 abbrev pub block_eq : Block → Block → Bool

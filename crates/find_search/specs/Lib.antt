@@ -1,4 +1,3 @@
-pub mod Findings
 pub mod Refusals
 pub mod Known
 pub mod inside

@@ -3,7 +3,7 @@ use crate::hard_finder::HardFinder;
 use crate::known_file::KnownFile;
 use crate::saving::Searcher;
 use backward::BackwardFinder;
-use cert::{Finder, Finders, OwnedCertificate, OwnedRecord};
+use cert::{Decided, Finder, Finders, OwnedCertificate, OwnedRecord};
 use cmd_options::{Ended, LETTERS, Search};
 use far::FarFinder;
 use find_counted::CountedFinder;
@@ -46,6 +46,29 @@ impl Finder for AnyFinder<'_> {
             AnyFinder::Listed(finder) => finder.find(t, budget),
             AnyFinder::Counted(finder) => finder.find(t, budget),
             AnyFinder::Hard(finder) => finder.find(t, budget),
+        }
+    }
+
+    fn find_shown(
+        &mut self,
+        alloc: Global,
+        t: &Table,
+        budget: u64,
+    ) -> Result<Option<Decided>, NoMemory> {
+        match self {
+            AnyFinder::Known(file) => match file.known.try_borrow_mut() {
+                Ok(mut known) => known.find_shown(alloc, t, budget),
+                Err(_) => Ok(None),
+            },
+            AnyFinder::Halts(finder) => finder.find_shown(alloc, t, budget),
+            AnyFinder::Cycle(finder) => finder.find_shown(alloc, t, budget),
+            AnyFinder::Translated(finder) => finder.find_shown(alloc, t, budget),
+            AnyFinder::Backward(finder) => finder.find_shown(alloc, t, budget),
+            AnyFinder::Ngram(finder) => finder.find_shown(alloc, t, budget),
+            AnyFinder::Far(finder) => finder.find_shown(alloc, t, budget),
+            AnyFinder::Listed(finder) => finder.find_shown(alloc, t, budget),
+            AnyFinder::Counted(finder) => finder.find_shown(alloc, t, budget),
+            AnyFinder::Hard(finder) => finder.find_shown(alloc, t, budget),
         }
     }
 }

@@ -1,9 +1,12 @@
 // The finder that goes through the stages.
-use crate::loop_finder::{Found, LoopFinder};
+ghost use Rattle.std.specs.Prelude.{IfOk, IfSome};
+ghost use Rattle.cert.specs.Asking.{IsShownRecord};
+
+use crate::loop_finder::LoopFinder;
 use crate::named_tables::NamedTables;
 use crate::stages::{COUNTS, DEPTH, FIRST_STAGES, HALTING_STEPS, LARGEST, STAGES, Stage};
 use backward::BackwardFinder;
-use cert::{Finder, OwnedCertificate};
+use cert::{Decided, Finder, OwnedCertificate};
 use far::{FarFinder, OwnedFar};
 use find_automata::Stage as Automata;
 use find_counted::CountedFinder;
@@ -54,35 +57,26 @@ impl HardFinder {
         self.was_late
     }
 
-    // What a stage finds.
-    fn ask(
-        &mut self,
-        stage: Stage,
-        t: &Table,
-        budget: u64,
-    ) -> Result<Option<OwnedCertificate>, NoMemory> {
-        match stage {
-            Stage::Names => Ok(self.named.claim(t).map(OwnedCertificate::Named)),
-            Stage::Loops { first, steps } => self.ask_for_loops(t, first, steps),
-            Stage::Backward { paths } => self.ask_backwards(t, paths),
-            Stage::Words(stage) => self.ask_for_words(t, &[stage]),
-            Stage::FurtherWords => self.ask_for_words(t, &WORD_STAGES[2..]),
-            Stage::Automata(stage) => self.ask_for_automata(t, stage, budget),
-            Stage::Halting => self.halting.find(t, HALTING_STEPS),
-            Stage::Cycles => self.cycle.find(t, MAX_TIME),
-            Stage::TranslatedCycles => self.translated.find(t, MAX_TIME),
-            Stage::Counted => self.counted.find(t, budget),
+    // What a stage finds, judged: loops and automata from words are as they are found.
+    fn ask(&mut self, stage: Stage, t: &Table, budget: u64) -> Result<Option<Decided>, NoMemory>
+        ensures { IfOk result (λ o. IfSome o (IsShownRecord t.now)) }
+    {
+        let found = match stage {
+            Stage::Names => self.named.claim(t).map(OwnedCertificate::Named),
+            Stage::Loops { first, steps } => return self.loops.search(t, first, steps),
+            Stage::Backward { paths } => self.ask_backwards(t, paths)?,
+            Stage::Words(stage) => return self.ask_for_words(t, &[stage]),
+            Stage::FurtherWords => return self.ask_for_words(t, &WORD_STAGES[2..]),
+            Stage::Automata(stage) => self.ask_for_automata(t, stage, budget)?,
+            Stage::Halting => self.halting.find(t, HALTING_STEPS)?,
+            Stage::Cycles => self.cycle.find(t, MAX_TIME)?,
+            Stage::TranslatedCycles => self.translated.find(t, MAX_TIME)?,
+            Stage::Counted => self.counted.find(t, budget)?,
+        };
+        match found {
+            Some(certificate) => Decided::by(self.alloc, t, certificate),
+            None => Ok(None),
         }
-    }
-
-    // What the repeats of a run show.
-    fn ask_for_loops(
-        &mut self,
-        t: &Table,
-        first: u64,
-        steps: u64,
-    ) -> Result<Option<OwnedCertificate>, NoMemory> {
-        Ok(self.loops.search(t, first, steps)?.map(certificate_of))
     }
 
     // What backward reasoning shows.
@@ -100,9 +94,11 @@ impl HardFinder {
         &mut self,
         t: &Table,
         stages: &[WordStage],
-    ) -> Result<Option<OwnedCertificate>, NoMemory> {
+    ) -> Result<Option<Decided>, NoMemory>
+        ensures { IfOk result (λ o. IfSome o (IsShownRecord t.now)) }
+    {
         match self.words.search_by(t, stages)? {
-            Some(found) => Ok(Some(found.into_certificate(self.alloc)?)),
+            Some(found) => Ok(Some(found.into_decided(self.alloc, t)?)),
             None => Ok(None),
         }
     }
@@ -121,22 +117,23 @@ impl HardFinder {
 
 impl Finder for HardFinder {
     fn find(&mut self, t: &Table, budget: u64) -> Result<Option<OwnedCertificate>, NoMemory> {
+        let found = self.find_shown(self.alloc, t, budget)?;
+        Ok(found.map(|decided| decided.record.certificate))
+    }
+
+    fn find_shown(
+        &mut self,
+        _alloc: Global,
+        t: &Table,
+        budget: u64,
+    ) -> Result<Option<Decided>, NoMemory> {
         for (place, stage) in STAGES.iter().enumerate() {
-            let found = self.ask(*stage, t, budget)?;
-            if found.is_some() {
+            if let Some(decided) = self.ask(*stage, t, budget)? {
                 self.was_late = place >= FIRST_STAGES;
-                return Ok(found);
+                return Ok(Some(decided));
             }
         }
         Ok(None)
-    }
-}
-
-fn certificate_of(found: Found) -> OwnedCertificate {
-    match found {
-        Found::Halts(halts) => OwnedCertificate::Halts(halts),
-        Found::Cycle(cycle) => OwnedCertificate::Cycle(cycle),
-        Found::Translated(translated) => OwnedCertificate::Translated(translated),
     }
 }
 

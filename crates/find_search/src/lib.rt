@@ -7,13 +7,10 @@
 //!
 //! One run of a table serves three searches: whether it halts, comes to a cycle, or to a translated cycle. What repeats is
 //! seen in what the run reads and in which states: a run that goes on for ever in the same way does so with the same pairs of
-//! state and symbol, period by period. The periods in which the end of a run repeats are those of its pairs in reverse, which
-//! the borders of Knuth, Morris and Pratt (1977) tell in one pass. `specs/Findings` says what is so of a table for which
-//! something was found.
+//! state and symbol, period by period.
 #![tactic(auto)]
 
 mod any_finder;
-mod borders;
 mod hard_finder;
 mod history;
 mod known;
@@ -30,7 +27,7 @@ mod told;
 pub use any_finder::{AnyFinder, decider_for};
 pub use known::Known;
 pub use known_file::KnownFile;
-pub use loop_finder::{Found, LoopFinder};
+pub use loop_finder::LoopFinder;
 pub use reading::read_known;
 pub use refusals::Refusals;
 pub use saving::{SavingDecider, Searcher};

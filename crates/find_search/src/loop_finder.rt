@@ -1,37 +1,29 @@
 // The search of one run.
-ghost use Rattle.std.specs.Prelude.{◌≡◌, IfOk, IfSome, IsTrue};
-ghost use Rattle.law_turing.specs.Run.{start};
-ghost use Rattle.find_search.specs.Findings.{IsShown};
+ghost use Rattle.std.specs.Prelude.{◌≡◌, ◌*◌, ◌≤◌, length, IfOk, IfSome, OnOk};
+ghost use Rattle.cert.specs.Asking.{IsShownRecord};
+ghost use Rattle.loops.specs.Limits.{time_limit};
 
-use crate::borders::Borders;
-use crate::history::History;
-use kind_evidence::{Evidence, NoMemory, Refused};
+use crate::history::{Moment, farthest, noted_run, repeating};
+use cert::{Decided, OwnedCertificate};
+use kind_evidence::NoMemory;
 use loops::{Cycle, MAX_TIME, Translated};
 use machine_text::{Dir, Sym, Table};
 use run::{HaltsIn, Runner, Step};
 use std::alloc::Global;
+use std::cmp::Ordering;
 
 // How many periods are tried at a checkpoint. A chance repeat at a run's end may hide the true one.
 const MOST_PERIODS: usize = 4;
-
-/// What one run of a table shows.
-#[derive(Clone, Copy, Debug, PartialEq, Eq)]
-pub enum Found {
-    /// The table halts.
-    Halts(HaltsIn),
-    /// The run comes to a cycle.
-    Cycle(Cycle),
-    /// The run comes to a translated cycle.
-    Translated(Translated),
-}
 
 /// Searches halting, cycles and translated cycles in one run.
 #[derive(Drop)]
 pub struct LoopFinder {
     alloc: Global,
+    // Of which table the run is, and where it stands.
+    table: Table,
     runner: Option<Runner>,
-    history: History,
-    borders: Borders,
+    // The times of the run, up to where the runner stands; behind them room.
+    moments: Vec<Moment>,
 }
 
 impl LoopFinder {
@@ -39,121 +31,149 @@ impl LoopFinder {
     pub fn new(alloc: Global) -> LoopFinder {
         LoopFinder {
             alloc,
+            table: Table::empty(1),
             runner: None,
-            history: History::new(alloc),
-            borders: Borders::new(alloc),
+            moments: Vec::new(alloc),
         }
     }
 
     /// What the run of a table shows within so many steps, and by `MAX_TIME`; none where it finds nothing. It looks for
-    /// what repeats at time `first`, at each time four times as late, and at the end. What it gives stands; no
-    /// contract says what is found.
-    pub fn search(&mut self, t: &Table, first: u64, steps: u64) -> Result<Option<Found>, NoMemory>
-        ensures { IfOk result (λ o. IfSome o (IsShown t.now)) }
+    /// what repeats at time `first`, at each time four times as late, and at the end. It goes on where it stopped, if that
+    /// was in the run of the same table, and not past `first`. What it gives stands; no contract says what is found.
+    pub fn search(&mut self, t: &Table, first: u64, steps: u64) -> Result<Option<Decided>, NoMemory>
+        ensures { IfOk result (λ o. IfSome o (IsShownRecord t.now)) }
     {
-        let mut runner = begun(self.alloc, self.runner.take(), t)?;
-        let found = self.found_in(&mut runner, t, first, steps.min(MAX_TIME));
+        let limit = steps.max(1).min(MAX_TIME);
+        let first = first.max(1).min(limit);
+        self.make_room(limit as usize)?;
+        let mut runner = self.begun(t, first)?;
+        let found = self.found_in(&mut runner, t, first, limit);
         self.runner = Some(runner);
         found
     }
 
-    // What is found in the run that a runner begins.
+    // Makes room for so many times.
+    fn make_room(&mut self, times: usize) -> Result<(), NoMemory>
+        ensures { OnOk result (times ≤ length self.new.moments.items) }
+    {
+        if self.moments.len() < times {
+            self.moments.resize(times, Moment::FIRST)?;
+        }
+        Ok(())
+    }
+
+    // The run of a table: the earlier one, if it is of that table and stands at no later time; else at its beginning, in
+    // the memory of the earlier one, if there was one.
+    fn begun(&mut self, t: &Table, latest: u64) -> Result<Runner, NoMemory>
+        ensures early { IfOk result (λ r. r.steps ≤ latest) }
+        ensures room { self.new.moments ≡ self.old.moments }
+    {
+        let earlier = self.runner.take();
+        let is_same = self.table == *t;
+        self.table = *t;
+        let Some(mut runner) = earlier else {
+            return Runner::new(self.alloc, *t);
+        };
+        if !is_same || runner.steps() > latest {
+            runner.restart(*t);
+        }
+        Ok(runner)
+    }
+
+    // What is found in a run from where a runner stands.
     fn found_in(
         &mut self,
         runner: &mut Runner,
         t: &Table,
         first: u64,
         limit: u64,
-    ) -> Result<Option<Found>, NoMemory>
-        ensures { IfOk result (λ o. IfSome o (IsShown t.now)) }
+    ) -> Result<Option<Decided>, NoMemory>
+        requires some { 1 ≤ first }
+        requires first { first ≤ limit }
+        requires limit { limit ≤ time_limit }
+        requires onward { runner.old.steps ≤ first }
+        requires room { limit ≤ length self.old.moments.items }
+        ensures { IfOk result (λ o. IfSome o (IsShownRecord t.now)) }
     {
-        self.history.clear();
-        let mut checkpoint = first.min(limit);
-        for time in 0..limit {
-            if runner.steps() >= MAX_TIME {
-                return Ok(None);
+        let mut checkpoint = first;
+        'checkpoints: while noted_run(runner, &mut self.moments, checkpoint)? == Step::Went {
+            let found = self.repetition(t, checkpoint as usize)?;
+            if found.is_some() || checkpoint == limit {
+                return Ok(found);
             }
-            self.history.note(runner)?;
-            if let Step::Halts { count } = runner.step()? {
-                return self.halting(runner, t, count);
-            }
-            if time + 1 == checkpoint {
-                if let Some(found) = self.repetition(t)? {
-                    return Ok(Some(found));
-                }
-                checkpoint = checkpoint.saturating_mul(4).min(limit);
-            }
+            checkpoint = checkpoint.saturating_mul(4).min(limit);
         }
-        Ok(None)
+        self.halting(runner, t)
     }
 
-    // The claim that a run halts in so many steps where a runner stands, if it stands.
-    fn halting(&self, runner: &Runner, t: &Table, count: u64) -> Result<Option<Found>, NoMemory>
-        ensures { IfOk result (λ o. IfSome o (IsShown t.now)) }
+    // The claim that a run halts where a runner stands, if it stands.
+    fn halting(&self, runner: &Runner, t: &Table) -> Result<Option<Decided>, NoMemory>
+        ensures { IfOk result (λ o. IfSome o (IsShownRecord t.now)) }
     {
         let halts = HaltsIn {
-            steps: count,
+            steps: runner.steps() + 1,
             ones: Some(score(runner)),
         };
-        Ok(standing(&halts, self.alloc, t)?.then_some(Found::Halts(halts)))
+        Decided::by(self.alloc, t, OwnedCertificate::Halts(halts))
     }
 
-    // What the run so far repeats, if that stands.
-    fn repetition(&mut self, t: &Table) -> Result<Option<Found>, NoMemory>
-        ensures { IfOk result (λ o. IfSome o (IsShown t.now)) }
+    // What the run repeats up to a time, if that stands.
+    fn repetition(&self, t: &Table, time: usize) -> Result<Option<Decided>, NoMemory>
+        requires { time ≤ length self.now.moments.items }
+        ensures { IfOk result (λ o. IfSome o (IsShownRecord t.now)) }
     {
-        self.borders.retake(self.history.pairs())?;
+        let moments = &self.moments[..time];
+        let mut longest = 0;
         let mut left = MOST_PERIODS;
-        for count in 1..=self.borders.len() {
-            let Some(period) = self.borders.repeats(count) else {
+        for period in 1..=time / 2 {
+            let wanted = (time / 3).max(2 * period).max(longest + 1);
+            let Some(count) = repeating(moments, period, wanted) else {
                 continue;
             };
             if left == 0 {
                 return Ok(None);
             }
             left -= 1;
-            if let Some(found) = self.loop_of(t, period)? {
+            if let Some(found) = self.loop_of(t, moments, period)? {
                 return Ok(Some(found));
             }
+            longest = count;
         }
         Ok(None)
     }
 
-    // The loop of a period, if it stands.
-    fn loop_of(&self, t: &Table, period: usize) -> Result<Option<Found>, NoMemory>
-        ensures { IfOk result (λ o. IfSome o (IsShown t.now)) }
+    // The loop of a period with which moments end, if it stands.
+    fn loop_of(
+        &self,
+        t: &Table,
+        moments: &[Moment],
+        period: usize,
+    ) -> Result<Option<Decided>, NoMemory>
+        requires some { 1 ≤ period }
+        requires twice { 2 * period ≤ length moments.now }
+        ensures { IfOk result (λ o. IfSome o (IsShownRecord t.now)) }
     {
-        let now = self.history.pairs().len();
-        let second = now.saturating_sub(period);
-        let first = second.saturating_sub(period);
-        let shift = self.history.shift(first, second);
-        if shift == 0 {
-            let cycle = Cycle {
-                i: first as u64,
-                j: second as u64,
-            };
-            return Ok(standing(&cycle, self.alloc, t)?.then_some(Found::Cycle(cycle)));
-        }
-        let side = if shift > 0 { Dir::R } else { Dir::L };
-        let i = self.history.farthest(first, second, side) as u64;
+        let second = moments.len() - period;
+        let first = second - period;
+        let side = match moments[second].head.cmp(&moments[first].head) {
+            Ordering::Equal => {
+                let cycle = Cycle {
+                    i: first as u64,
+                    j: second as u64,
+                };
+                return Decided::by(self.alloc, t, OwnedCertificate::Cycle(cycle));
+            }
+            Ordering::Greater => Dir::R,
+            Ordering::Less => Dir::L,
+        };
+        let i = first + farthest(&moments[first..second], side);
         let translated = Translated {
-            i,
-            j: i.saturating_add(period as u64),
+            i: i as u64,
+            j: (i + period) as u64,
             side,
         };
-        Ok(standing(&translated, self.alloc, t)?.then_some(Found::Translated(translated)))
+        Decided::by(self.alloc, t, OwnedCertificate::Translated(translated))
     }
-}
-
-// The run of a table at its beginning, in the memory of an earlier one, if there was one.
-fn begun(alloc: Global, earlier: Option<Runner>, t: &Table) -> Result<Runner, NoMemory>
-    ensures { IfOk result (λ r. r ≡ record { table = t.now; steps = 0; config = start }) }
-{
-    let Some(mut runner) = earlier else {
-        return Runner::new(alloc, *t);
-    };
-    runner.restart(*t);
-    Ok(runner)
 }
 
 // The ones that a run which halts where a runner stands leaves: the halting step writes one.
@@ -162,17 +182,5 @@ fn score(runner: &Runner) -> u64 {
     match runner.tape().read() {
         Sym::Zero => ones.saturating_add(1),
         Sym::One => ones,
-    }
-}
-
-// Whether a claim stands.
-fn standing<E: Evidence>(claim: &E, alloc: Global, t: &Table) -> Result<bool, NoMemory>
-    ensures { IfOk result (λ stands. IsTrue stands → (E.meaning claim.now).stands t.now
-        × (E.meaning claim.now).within) }
-{
-    match claim.check(alloc, t) {
-        Ok(_) => Ok(true),
-        Err(Refused::NoMemory) => Err(NoMemory),
-        Err(_) => Ok(false),
     }
 }

@@ -3,4 +3,4 @@ use Rattle.cert.proofs.record.OwnedRecord.lent.Goals as goal
 
 -- answered by name, so that nothing is offered where an edit makes it false
 pub returns : goal.returns
-returns c = search rules steps 100000
+returns c = search rules steps 1000000

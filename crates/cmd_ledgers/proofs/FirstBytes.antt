@@ -18,9 +18,9 @@ use Rattle.ledger.proofs.HeaderLaws.{none_begun, none_named, is_named}
 use Rattle.ledger.specs.declared.faults.LoadFault.{LoadFault}
 use Rattle.ledger.specs.declared.faults.LoadFault.TheVariants.{BadHeader, WrongRoot, NoMemory}
 use Rattle.cmd_options.specs.declared.ended.Ended.{Ended}
-use Rattle.cmd_options.specs.declared.ended.Ended.TheVariants.{BadHeader as HeaderEnds, WrongRoot as OtherRoot, Stream, Ledger, File, HasPart, OutInFolder, Locked, NoMemory as WantsMemory}
+use Rattle.cmd_options.specs.declared.ended.Ended.TheVariants.{BadHeader as HeaderEnds, NoMemory as WantsMemory}
 use Rattle.cmd_ledgers.specs.Faults.{ended_by_load}
-use Rattle.cmd_ledgers.specs.Reading.{AreFirstBytes, BeginsWithRoot, EndsBehindHeader, EndsReading, EndsReadingOf, IsLoadedFrom}
+use Rattle.cmd_ledgers.specs.Reading.{AreFirstBytes, BeginsWithRoot, EndsBehindHeader, EndsReading, IsLoadedFrom}
 use Rattle.cmd_ledgers.specs.inside.{BeginsReading}
 use Rattle.cmd_options.specs.declared.stopped.Stopped.{Stopped}
 use Rattle.cmd_options.specs.declared.stopped.Stopped.TheVariants.{Failed, Ended as EndedBy}
@@ -152,18 +152,6 @@ module _ (old mid : Option (List ℕ)) (limit : ℕ) (first : List ℕ) (root : 
       subst (λ (x : Ended). EndsReading old limit (EndedBy x)) (sym h)
       (first ++ behind.0, behind.1, (root, begins.rest ++ behind.0, header_more first behind.0 root begins.rest begins.header, begins.order))
 
-  pub behind_ends_of : (e : Stopped) → EndsBehindHeader e → EndsReadingOf root old limit e
-  behind_ends_of (Failed fault) h = tt
-  behind_ends_of (EndedBy e) h =
-      let behind = some_behind old mid limit first begins.consumed begins.within in
-      subst (λ (x : Ended). EndsReadingOf root old limit (EndedBy x)) (sym h)
-      (first ++ behind.0, behind.1, (begins.rest ++ behind.0, header_more first behind.0 root begins.rest begins.header))
-
-  pub other_ends : (asked : Packed) → root ≢ asked → EndsReadingOf asked old limit (EndedBy OtherRoot)
-  other_ends asked apart =
-      let behind = some_behind old mid limit first begins.consumed begins.within in
-      (first ++ behind.0, behind.1, (root, begins.rest ++ behind.0, header_more first behind.0 root begins.rest begins.header, apart))
-
   pub is_loaded : (b : Contents) (left : Left) (more : List ℕ) → b.root ≡ root → AreFirstBytes mid (limit - length first) more → ReadsIn b.format root (first ++ more) b.records left → IsLoadedFrom old limit b left
   is_loaded b left more same are reads = record {
     text = first ++ more;
@@ -171,23 +159,6 @@ module _ (old mid : Option (List ℕ)) (limit : ℕ) (first : List ℕ) (root : 
     reads = subst (λ (p : Packed). ReadsIn b.format p (first ++ more) b.records left) (sym same) reads;
     order = subst (λ (p : Packed). (u : ℕ) × InOrder u (entry_of p)) (sym same) begins.order;
   }
-
--- why no root is known, for a board of another that is in order
-taking_ends : (root : Packed) (has : Option (List ℕ)) (limit : ℕ) (e : Ended) → ((u : ℕ) × InOrder u (entry_of root)) → EndedBy e ≢ EndedBy WantsMemory → EndsReading has limit (EndedBy e) → EndsReadingOf root has limit (EndedBy e)
-taking_ends root has limit HeaderEnds order none h = h
-taking_ends root has limit OtherRoot order none h =
-    (h.0, h.1, (h.2.0, h.2.1, h.2.2, λ same. h.2.3 (subst (λ (p : Packed). (u : ℕ) × InOrder u (entry_of p)) (sym same) order)))
-taking_ends root has limit Stream order none h = absurd h.2
-taking_ends root has limit Ledger order none h = absurd h.2
-taking_ends root has limit File order none h = absurd h.2
-taking_ends root has limit HasPart order none h = absurd h.2
-taking_ends root has limit OutInFolder order none h = absurd h.2
-taking_ends root has limit Locked order none h = absurd h.2
-taking_ends root has limit WantsMemory order none h = absurd (none refl)
-
-pub begin_ends_of : (root : Packed) (has : Option (List ℕ)) (limit : ℕ) (e : Stopped) → ((u : ℕ) × InOrder u (entry_of root)) → e ≢ EndedBy WantsMemory → EndsReading has limit e → EndsReadingOf root has limit e
-begin_ends_of root has limit (Failed fault) order none h = tt
-begin_ends_of root has limit (EndedBy e) order none h = taking_ends root has limit e order none h
 
 -- a text with the header of the root isn't loaded where memory is refused alone
 pub finish_ends : (text : List ℕ) (root : Packed) (rest : List ℕ) (f : LoadFault) → HasHeader text root rest → LoadGives root text (Err f) → ended_by_load f ≡ WantsMemory

@@ -25,9 +25,8 @@ use Rattle.ledger.proofs.OpenLaws.{settled_other}
 use Rattle.ledger.proofs.TextOrder.{all_apart}
 use Rattle.wire.specs.Fulfilled.{cut_to}
 use Rattle.wire.specs.Device.{IsBegun, grown}
-use Rattle.cmd_options.specs.declared.ended.Ended.{Ended}
 use Rattle.cmd_ledgers.specs.GoingOn.{kept_part}
-use Rattle.cmd_ledgers.specs.Retry.{StaysInStep, ResolvesOrStays, ChangesBy, IsTried, AreTried, AreRetried, EndsAtHoldout, EndsRetrying, gained, with_line}
+use Rattle.cmd_ledgers.specs.Retry.{StaysInStep, ResolvesOrStays, ChangesBy, IsTried, AreTried, AreRetried, LeavesRetried, MayTear, gained, with_line}
 
 -- a ledger that is cut to what was kept of it
 pub cut_in_step : (b : Contents) (before after : Option (List ℕ)) (line kept : ℕ) (why : Unkept) → after ≡ cut_to (Some kept) before
@@ -152,10 +151,10 @@ all_tried Answers old new before after tried left none all are =
     (tried, subst (AreAll (IsHoldout old.records)) (ap (λ (l : List Packed). tried ++ l) none ∙ append-nil tried) all, are)
 
 -- it ends at one that is left
-pub stops_at : (Answers : Packed → Recorded → Type 0) (e : Ended) (old new : Contents) (format : Format) (mid : List Recorded) (before text after : Option (List ℕ)) (tried : List Packed) (t : Packed) (left rest : List Packed) →
+pub stops_at : (Answers : Packed → Recorded → Type 0) (old new : Contents) (format : Format) (mid : List Recorded) (before text after : Option (List ℕ)) (tried : List Packed) (t : Packed) (left rest : List Packed) →
     left ≡ t ∷ rest → format ≡ old.format → AreAll (IsHoldout old.records) (tried ++ left) → AreTried Answers old.format tried old.records before mid text →
-    EndsAtHoldout Answers format t e mid text new.records after → EndsRetrying Answers e old before new after
-stops_at Answers e old new format mid before text after tried t left rest is was all are ends = inr (record {
+    MayTear Answers format t mid text new.records after → LeavesRetried Answers old before new after
+stops_at Answers old new format mid before text after tried t left rest is was all are ends = inr (inl (record {
   tried = tried;
   at = t;
   later = rest;
@@ -163,8 +162,8 @@ stops_at Answers e old new format mid before text after tried t left rest is was
   mid = mid;
   text = text;
   are_tried = are;
-  ends = subst (λ (f : Format). EndsAtHoldout Answers f t e mid text new.records after) was ends;
-})
+  ends = subst (λ (f : Format). MayTear Answers f t mid text new.records after) was ends;
+}))
 
 -- the ledger has no more than a beginning of the line of a record
 pub torn_line : (format : Format) (r : Recorded) (line begun : List ℕ) (before after : Option (List ℕ)) → line ≡ begun ++ gained format r → begun ≡ [] → IsBegun before line after

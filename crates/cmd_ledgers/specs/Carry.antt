@@ -1,25 +1,16 @@
 -- A ledger that is carried over to another file, as version 2.
-use Rattle.std.specs.Prelude.{◌≡◌, ◌⊎◌, ℕ, ◌-◌, List, [], ◌∷◌, ◌++◌, Option, Ok, Err, codes}
+use Rattle.std.specs.Prelude.{◌≡◌, ℕ, ◌-◌, List, [], ◌∷◌, ◌++◌, Option, codes}
 use Rattle.ledger.specs.Contents.{Contents}
 use Rattle.ledger.specs.Tally.{IsTally}
 use Rattle.ledger.specs.declared.left.Left.{Left}
 use Rattle.ledger.specs.declared.tally.Tally.{Tally}
-use Rattle.cmd_options.specs.declared.ended.Ended.{Ended}
-use Rattle.cmd_options.specs.declared.ended.Ended.TheVariants.{Ledger, NoMemory}
 use Rattle.cmd_ledgers.specs.LedgerReport.{left_text}
 use Rattle.cmd_ledgers.specs.Merge.{Readings, IsLoaded, count_text, rewritten}
 
 -- a ledger is loaded, and another holds what was loaded, which is told
 abbrev pub CarriesInto : Readings → Tally → Left → Option (List ℕ) → Option (List ℕ) → Type 0
 CarriesInto from tally left before after =
-    (b : Contents) × IsLoaded from (Ok (b, left)) × IsTally b.root b.records tally × (after ≡ rewritten b before)
-
--- why nothing is carried, and whether the other is as it was: the ledger isn't loaded; or it is, but memory is refused for
--- the text; or else the other has failed
-abbrev pub EndsCarryingInto : Readings → Ended → Type 0 → Type 0
-EndsCarryingInto from e IsUntouched =
-    (IsLoaded from (Err e) × IsUntouched)
-    ⊎ ((loaded : Contents × Left) × IsLoaded from (Ok loaded) × (((e ≡ NoMemory) × IsUntouched) ⊎ (e ≡ Ledger)))
+    (b : Contents) × IsLoaded from (b, left) × IsTally b.root b.records tally × (after ≡ rewritten b before)
 
 -- what is printed of a ledger that is carried
 abbrev pub carried_text : Tally → Left → List ℕ

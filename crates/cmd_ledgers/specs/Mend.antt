@@ -1,5 +1,5 @@
 -- What is kept of the lines of a damaged ledger.
-use Rattle.std.specs.Prelude.{◌≡◌, ◌⊎◌, ℕ, ◌+◌, ◌-◌, List, [], ◌∷◌, ◌++◌, length, Option, Result, Ok, Err, codes, decimal}
+use Rattle.std.specs.Prelude.{◌≡◌, ℕ, ◌+◌, ◌-◌, List, [], ◌∷◌, ◌++◌, length, Option, Result, Ok, Err, codes, decimal}
 use Rattle.std.specs.Io.KnownBytes.{Appends}
 use Rattle.std.proofs.Common.{zero, suc}
 use Rattle.machine_text.specs.Packed.{Packed}
@@ -14,14 +14,10 @@ use Rattle.ledger.specs.declared.tally.Tally.{Tally}
 use Rattle.cmd_options.specs.declared.outcome.Outcome.{Outcome}
 use Rattle.cmd_options.specs.declared.outcome.Outcome.TheVariants.{Accepted, Refused}
 use Rattle.cmd_options.specs.declared.ended.Ended.{Ended}
-use Rattle.cmd_options.specs.declared.ended.Ended.TheVariants.{Ledger as LedgerFails, NoMemory as WantsMemory, Stream as StreamFails}
-use Rattle.cmd_options.specs.declared.stopped.Stopped.{Stopped}
-use Rattle.cmd_options.specs.declared.stopped.Stopped.TheVariants.{Ended as EndedBy}
-use Rattle.files.specs.Paths.{IsKept, SameFile, Shelf}
+use Rattle.files.specs.Paths.{SameFile, Shelf}
 use Rattle.cmd_lines.specs.Lines.{AreLines}
-use Rattle.cmd_ledgers.specs.AtPath.{PutsLedger}
+use Rattle.cmd_ledgers.specs.AtPath.{LeavesOut, PutsLedger}
 use Rattle.cmd_ledgers.specs.Merge.{rewritten}
-use Rattle.cmd_ledgers.specs.Reading.{AreFirstBytes, EndsReading}
 
 -- the records as which lines read, in their order; a line that doesn't read is passed over
 abbrev pub with_read : Result Recorded RecordFault → List Recorded → List Recorded
@@ -53,14 +49,6 @@ abbrev pub MendsInto : List ℕ → Tally → ℕ → Option (List ℕ) → Opti
 MendsInto text tally dropped before after =
     (b : Contents) × IsMended text b dropped × IsTally b.root b.records tally × (after ≡ rewritten b before)
 
--- why nothing is mended, and whether the other ledger is as it was: the damaged one isn't read; or it is, but memory is
--- refused for the text of what is kept; or else the other has failed
-abbrev pub EndsMendingInto : Option (List ℕ) → ℕ → Stopped → Type 0 → Type 0
-EndsMendingInto has limit e IsUntouched =
-    (EndsReading has limit e × IsUntouched)
-    ⊎ ((text : List ℕ) × AreFirstBytes has limit text × ((b : Contents) × (dropped : ℕ) × IsMended text b dropped
-    × (((e ≡ EndedBy WantsMemory) × IsUntouched) ⊎ (e ≡ EndedBy LedgerFails))))
-
 -- what is printed
 abbrev pub mended_text : Tally → ℕ → List ℕ
 mended_text tally dropped = codes "mended " ++ decimal (tally.nodes - tally.open_count) ++ codes " dropped "
@@ -71,8 +59,7 @@ abbrev pub outcome_of_dropped : ℕ → Outcome
 outcome_of_dropped zero = Accepted
 outcome_of_dropped (suc dropped) = Refused
 
--- a ledger of what is kept of a text, which may be read so, is put at a path, and that is told. Where that ends early nothing
--- has changed at any path and nothing is printed, unless the stream fails once it is put
+-- a ledger of what is kept of a text, which may be read so, is put at a path, and that is told
 abbrev pub MendsAt : (List ℕ → Type 0) → SameFile → List ℕ → Shelf → Shelf → Option (List ℕ) → Option (List ℕ)
     → Result Outcome Ended → Type 0
 MendsAt Reads tells out old new held new_held (Ok o) =
@@ -81,6 +68,5 @@ MendsAt Reads tells out old new held new_held (Ok o) =
     × PutsLedger tells out b old new × Appends held new_held (mended_text tally dropped)
     × (o ≡ outcome_of_dropped dropped))
 MendsAt Reads tells out old new held new_held (Err e) =
-    (IsKept old new × (new_held ≡ held))
-    ⊎ ((e ≡ StreamFails) × ((text : List ℕ) × Reads text
-    × ((b : Contents) × (dropped : ℕ) × IsMended text b dropped × PutsLedger tells out b old new)))
+    LeavesOut e old new held new_held ((text : List ℕ) × Reads text
+    × ((b : Contents) × (dropped : ℕ) × IsMended text b dropped × PutsLedger tells out b old new))

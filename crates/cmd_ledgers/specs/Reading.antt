@@ -7,7 +7,6 @@ use Rattle.ledger.specs.Contents.{Contents}
 use Rattle.ledger.specs.LedgerText.{HasHeader, ReadsIn}
 use Rattle.ledger.specs.declared.left.Left.{Left}
 use Rattle.cmd_ledgers.specs.LedgerReport.{EndsLedger}
-use Rattle.cmd_ledgers.specs.Merge.{EndsTakingIn}
 use Rattle.cmd_options.specs.declared.ended.Ended.TheVariants.{NoMemory}
 use Rattle.cmd_options.specs.declared.stopped.Stopped.{Stopped}
 use Rattle.cmd_options.specs.declared.stopped.Stopped.TheVariants.{Failed, Ended as EndedBy}
@@ -36,11 +35,6 @@ pub record BeginsWithRoot (old new : Option (List ℕ)) (limit : ℕ) (first : L
 abbrev pub EndsReading : Option (List ℕ) → ℕ → Stopped → Type 0
 EndsReading has limit (Failed fault) = Unit {0}
 EndsReading has limit (EndedBy e) = (text : List ℕ) × AreFirstBytes has limit text × EndsLedger text e
-
--- why they aren't taken into a board of this root
-abbrev pub EndsReadingOf : Packed → Option (List ℕ) → ℕ → Stopped → Type 0
-EndsReadingOf root has limit (Failed fault) = Unit {0}
-EndsReadingOf root has limit (EndedBy e) = (text : List ℕ) × AreFirstBytes has limit text × EndsTakingIn root text e
 
 -- why what stands behind a header isn't loaded: a read failed, or memory was refused
 abbrev pub EndsBehindHeader : Stopped → Type 0

@@ -1,5 +1,5 @@
 -- What `bb report` comes to, by what may be read of its ledger.
-use Rattle.std.specs.Prelude.{◌≡◌, ◌⊎◌, ℕ, Bool, true, false, List, Option, Result, Ok, Err}
+use Rattle.std.specs.Prelude.{◌≡◌, ℕ, Bool, true, false, List, Option, Result, Ok, Err}
 use Rattle.std.specs.Io.KnownBytes.{Appends}
 use Rattle.machine_text.specs.Packed.{Packed}
 use Rattle.cert.specs.Claim.{Recorded}
@@ -8,11 +8,10 @@ use Rattle.ledger.specs.Tally.{IsStatus}
 use Rattle.ledger.specs.declared.left.Left.{Left}
 use Rattle.ledger.specs.declared.status.Status.{Status}
 use Rattle.cmd_options.specs.declared.outcome.Outcome.{Outcome}
+use Rattle.cmd_options.specs.Ends.{PrintsNothing}
 use Rattle.cmd_options.specs.declared.ended.Ended.{Ended}
-use Rattle.cmd_options.specs.declared.ended.Ended.TheVariants.{NoMemory, Stream}
 use Rattle.cmd_ledgers.specs.LedgerReport.{outcome_by}
 use Rattle.cmd_ledgers.specs.Merge.{IsLoaded, Readings}
-use Rattle.cmd_ledgers.specs.Reading.{AreFirstBytes}
 
 -- behind what a writer held stands, in a form, the report of a board, and what wasn't kept of its ledger; the command
 -- ends by how the board stands, and by that
@@ -26,23 +25,16 @@ pub record WritesReport (IsText : Packed → List Recorded → Left → List ℕ
   pub stands : IsStatus b.root b.records status
   pub ends : o ≡ outcome_by status left
 
--- what may come of reading the first bytes of a stream, up to a limit
-abbrev pub ReadsFirst : Option (List ℕ) → ℕ → Readings
-ReadsFirst has limit (Ok text) = AreFirstBytes has limit text
-ReadsFirst has limit (Err e) = (e ≡ NoMemory) ⊎ (e ≡ Stream)
-
--- the report of what a ledger is loaded as is written. Where that isn't loaded, or memory is refused, nothing is
--- written; or else a stream failed
+-- the report of what a ledger is loaded as is written
 abbrev pub ReportsFrom : (Packed → List Recorded → Left → List ℕ → Type 0) → Readings → Option (List ℕ)
     → Option (List ℕ) → Result Outcome Ended → Type 0
-ReportsFrom IsText reads held new_held (Ok o) = (b : Contents) × (left : Left) × IsLoaded reads (Ok (b, left))
+ReportsFrom IsText reads held new_held (Ok o) = (b : Contents) × (left : Left) × IsLoaded reads (b, left)
     × WritesReport IsText b left held new_held o
-ReportsFrom IsText reads held new_held (Err e) = ((IsLoaded reads (Err e) ⊎ (e ≡ NoMemory)) × (new_held ≡ held))
-    ⊎ (e ≡ Stream)
+ReportsFrom IsText reads held new_held (Err e) = PrintsNothing e held new_held
 
 -- where it is asked for, something may be said of what wasn't kept; else nothing is, nor where that ends early, but for
 -- a stream
 abbrev pub SaysWhy : Bool → Result Outcome Ended → Option (List ℕ) → Option (List ℕ) → Type 0
 SaysWhy false ended said new_said = new_said ≡ said
 SaysWhy true (Ok o) said new_said = (text : List ℕ) × Appends said new_said text
-SaysWhy true (Err e) said new_said = (new_said ≡ said) ⊎ (e ≡ Stream)
+SaysWhy true (Err e) said new_said = PrintsNothing e said new_said

@@ -1,5 +1,5 @@
 -- A board and its ledger, while holdouts are tried again.
-use Rattle.std.specs.Prelude.{◌≡◌, ◌≢◌, ◌⊎◌, ℕ, Bool, true, false, List, [], ◌∷◌, ◌++◌, Option, Some, None, IfSome, Result, Err, OnOk}
+use Rattle.std.specs.Prelude.{◌≡◌, ◌⊎◌, ℕ, Bool, true, false, List, [], ◌∷◌, ◌++◌, Option, Some, None, IfSome, Result, OnOk}
 use Rattle.machine_text.specs.Packed.{Packed}
 use Rattle.kind_evidence.specs.declared.verdicts.Ending.{Ending}
 use Rattle.cert.specs.Claim.{Recorded, ending_by}
@@ -12,7 +12,6 @@ use Rattle.ledger.specs.Versions.{ledger_line}
 use Rattle.ledger.specs.declared.format.Format.{Format}
 use Rattle.wire.specs.Device.{IsBegun, grown}
 use Rattle.cmd_options.specs.declared.ended.Ended.{Ended}
-use Rattle.cmd_options.specs.declared.ended.Ended.TheVariants.{Ledger, NoMemory}
 
 -- where a ledger's text was known and in step with the old board, it is in step with the new one
 abbrev pub StaysInStep : Contents → Option (List ℕ) → Contents → Option (List ℕ) → Type 0
@@ -24,11 +23,6 @@ pub record KeepsInStep {T : Type 0} (result : Result T Ended) (old : Contents) (
   pub root : new.root ≡ old.root
   pub format : new.format ≡ old.format
   pub step : OnOk result (StaysInStep old before new after)
-
--- a ledger that is said to have failed has counted that, and one that isn't has counted nothing
-pub record CountsFailures {T : Type 0} (result : Result T Ended) (old new : ℕ) : Type 0 where
-  pub works : OnOk result (new ≡ old)
-  pub failed : result ≡ Err Ledger → old ≢ new
 
 -- the line of a record that a ledger gains, with its score in version 2
 abbrev pub gained : Format → Recorded → List ℕ
@@ -77,27 +71,25 @@ AreRetried Answers old before new after =
     (ts : List Packed) × AreAll (IsHoldout old.records) ts
     × AreTried Answers old.format ts old.records before new.records after
 
--- memory was refused, and nothing changed
-abbrev pub ChangesNothing : Ended → List Recorded → Option (List ℕ) → List Recorded → Option (List ℕ) → Type 0
-ChangesNothing e old before new after = (e ≡ NoMemory) × (new ≡ old) × (after ≡ before)
+-- nothing has changed
+abbrev pub ChangesNothing : List Recorded → Option (List ℕ) → List Recorded → Option (List ℕ) → Type 0
+ChangesNothing old before new after = (new ≡ old) × (after ≡ before)
 
 -- the ledger failed under the line of a record: the board has the record, and the ledger no more than a beginning of
 -- the line
-abbrev pub TearsLineOf : Format → Recorded → Ended → List Recorded → Option (List ℕ) → List Recorded → Option (List ℕ)
-    → Type 0
-TearsLineOf format r e old before new after = (e ≡ Ledger) × Resolves old r × (new ≡ resolved old (with_score r))
+abbrev pub TearsLineOf : Format → Recorded → List Recorded → Option (List ℕ) → List Recorded → Option (List ℕ) → Type 0
+TearsLineOf format r old before new after = Resolves old r × (new ≡ resolved old (with_score r))
     × IsBegun before (gained format r) after
 
--- what ends it at a holdout: memory was refused; or the ledger failed, under the line of a record that was answered for
--- it
-abbrev pub EndsAtHoldout : (Packed → Recorded → Type 0) → Format → Packed → Ended → List Recorded → Option (List ℕ)
-    → List Recorded → Option (List ℕ) → Type 0
-EndsAtHoldout Answers format t e old before new after =
-    ChangesNothing e old before new after ⊎ ((r : Recorded) × Answers t r × (r.table ≡ t)
-    × TearsLineOf format r e old before new after)
+-- what an early end leaves at a holdout: nothing has changed, or the line of a record that was answered for it is torn
+abbrev pub MayTear : (Packed → Recorded → Type 0) → Format → Packed → List Recorded → Option (List ℕ) → List Recorded
+    → Option (List ℕ) → Type 0
+MayTear Answers format t old before new after =
+    ChangesNothing old before new after ⊎ ((r : Recorded) × Answers t r × (r.table ≡ t)
+    × TearsLineOf format r old before new after)
 
--- it ended at one of the holdouts that a board had, and those before it were tried
-pub record StopsAtHoldout (Answers : Packed → Recorded → Type 0) (e : Ended) (old : Contents) (before : Option (List ℕ))
+-- the first of the holdouts that a board had were tried, and the next is left so
+pub record TriesFirst (Answers : Packed → Recorded → Type 0) (old : Contents) (before : Option (List ℕ))
     (new : Contents) (after : Option (List ℕ)) : Type 0 where
   pub tried : List Packed
   pub at : Packed
@@ -106,10 +98,10 @@ pub record StopsAtHoldout (Answers : Packed → Recorded → Type 0) (e : Ended)
   pub mid : List Recorded
   pub text : Option (List ℕ)
   pub are_tried : AreTried Answers old.format tried old.records before mid text
-  pub ends : EndsAtHoldout Answers old.format at e mid text new.records after
+  pub ends : MayTear Answers old.format at mid text new.records after
 
--- what ends it early: there is no memory for the holdouts; or it ends at one of them
-abbrev pub EndsRetrying : (Packed → Recorded → Type 0) → Ended → Contents → Option (List ℕ) → Contents → Option (List ℕ)
+-- what an early end leaves of a board and its ledger: nothing has changed, or the first holdouts were tried, or all
+abbrev pub LeavesRetried : (Packed → Recorded → Type 0) → Contents → Option (List ℕ) → Contents → Option (List ℕ)
     → Type 0
-EndsRetrying Answers e old before new after = ChangesNothing e old.records before new.records after
-    ⊎ StopsAtHoldout Answers e old before new after
+LeavesRetried Answers old before new after = ChangesNothing old.records before new.records after
+    ⊎ (TriesFirst Answers old before new after ⊎ AreRetried Answers old before new after)

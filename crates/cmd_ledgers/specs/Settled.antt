@@ -13,8 +13,8 @@ use Rattle.ledger.specs.declared.left.Left.{Left}
 use Rattle.ledger.specs.declared.left.Left.TheVariants.{Nothing}
 use Rattle.cmd_options.specs.declared.outcome.Outcome.{Outcome}
 use Rattle.cmd_options.specs.declared.outcome.Outcome.TheVariants.{Accepted, Refused, BadLine, NoMemory, Failed}
+use Rattle.cmd_options.specs.Ends.{PrintsNothing}
 use Rattle.cmd_options.specs.declared.ended.Ended.{Ended}
-use Rattle.cmd_options.specs.declared.ended.Ended.TheVariants.{Stream}
 
 -- what a form of report prints of a root and its records, and of what wasn't kept of their ledger
 abbrev pub FormText : Type 1
@@ -59,7 +59,7 @@ EndsByReport IfAccepted IfRefused held new_held (Ok Refused) = IfRefused
 EndsByReport IfAccepted IfRefused held new_held (Ok BadLine) = ⊥
 EndsByReport IfAccepted IfRefused held new_held (Ok NoMemory) = ⊥
 EndsByReport IfAccepted IfRefused held new_held (Ok Failed) = ⊥
-EndsByReport IfAccepted IfRefused held new_held (Err e) = (new_held ≡ held) ⊎ (e ≡ Stream)
+EndsByReport IfAccepted IfRefused held new_held (Err e) = PrintsNothing e held new_held
 
 -- by the outcome: where all is accepted, the first; where it is refused, the second, or nothing was written; where memory is
 -- refused, nothing. A failure doesn't tell what was written

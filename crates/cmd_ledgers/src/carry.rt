@@ -1,12 +1,11 @@
 // `bb carry`: a ledger of either version in, the same of version 2 out.
-ghost use Rattle.std.specs.Prelude.{◌≡◌, ◌⊎◌, Err, IfOk, IfErr, List, ℕ, Option, Result};
+ghost use Rattle.std.specs.Prelude.{◌≡◌, ◌⊎◌, IfOk, IfErr, List, ℕ, Option, Result};
 ghost use Rattle.cmd_options.specs.declared.outcome.Outcome.{Outcome as Outcomes};
 ghost use Rattle.cmd_options.specs.declared.ended.Ended.{Ended as Ends};
 ghost use Rattle.cmd_options.specs.Ends.{EndsTold};
 ghost use Rattle.files.specs.Paths.{IsBlank, IsKeptBut};
-ghost use Rattle.cmd_ledgers.specs.AtPath.{CarriesAt, FailsWriting, ReadsAt};
-ghost use Rattle.cmd_ledgers.specs.Carry.{CarriesInto, EndsCarryingInto, carried_text};
-ghost use Rattle.cmd_ledgers.specs.Merge.{IsLoaded};
+ghost use Rattle.cmd_ledgers.specs.AtPath.{CarriesAt, IsAt};
+ghost use Rattle.cmd_ledgers.specs.Carry.{CarriesInto, carried_text};
 
 use crate::merge::append_count;
 use crate::report_writer::append_left;
@@ -66,10 +65,8 @@ fn carried<H: Files>(
     carrying: Carrying<'_>,
     host: &H,
 ) -> Result<(H::Made, Tally, Left), Ended>
-    ensures ok { IfOk result (λ j. (begun : Option (List ℕ)) × IsBlank begun
-        × CarriesInto (ReadsAt (H.holds host.now carrying.entry.ledger.now)) j.1 j.2 begun (H.Made.text j.0)) }
-    ensures err { IfErr result (λ e. IsLoaded (ReadsAt (H.holds host.now carrying.entry.ledger.now)) (Err e)
-        ⊎ FailsWriting e) }
+    ensures { IfOk result (λ j. (begun : Option (List ℕ)) × IsBlank begun
+        × CarriesInto (IsAt (H.holds host.now carrying.entry.ledger.now)) j.1 j.2 begun (H.Made.text j.0)) }
 {
     let mut made = made_for(host, carrying.out, &[carrying.ledger])?;
     let from = AtPath {
@@ -103,7 +100,7 @@ pub fn carry_into<S: LedgerSource, L: LedgerOut>(
 ) -> Result<(Tally, Left), Ended>
     ensures ok { IfOk result (λ told. CarriesInto (S.reads from.now) told.0 told.1 (L.text ledger.old)
         (L.text ledger.new)) }
-    ensures err { IfErr result (λ e. EndsCarryingInto (S.reads from.now) e (ledger.new ≡ ledger.old)) }
+    ensures err { IfErr result (λ e. (ledger.new ≡ ledger.old) ⊎ (e ≡ Ended.Ledger)) }
 {
     let (board, left) = load_source(alloc, from)?;
     write_whole(alloc, &board, ledger)?;

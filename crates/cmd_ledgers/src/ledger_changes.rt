@@ -1,5 +1,5 @@
 // What a command does to a ledger; one that fails ends the command.
-ghost use Rattle.std.specs.Prelude.{◌≡◌, ◌≢◌, OnOk, IfErr, Some};
+ghost use Rattle.std.specs.Prelude.{◌≡◌, IfErr, OnErr, OnOk, Some};
 ghost use Rattle.wire.specs.Fulfilled.{kept_text, cut_to};
 ghost use Rattle.wire.specs.Device.{IsBegun, grown};
 
@@ -32,9 +32,8 @@ pub(crate) fn cut_to<L: LedgerOut>(ledger: &mut L, len: u64) -> Result<(), Ended
 // Appends all of the bytes to a ledger.
 pub(crate) fn append_to<L: LedgerOut>(ledger: &mut L, bytes: &[u8]) -> Result<(), Ended>
     ensures ok { OnOk result (L.text ledger.new ≡ grown (L.text ledger.old) bytes.now) }
-    ensures works { OnOk result (L.failures ledger.new ≡ L.failures ledger.old) }
-    ensures err { IfErr result (λ e. (e ≡ Ended.Ledger) × (L.failures ledger.old ≢ L.failures ledger.new)
-        × IsBegun (L.text ledger.old) bytes.now (L.text ledger.new)) }
+    ensures err { IfErr result (λ e. e ≡ Ended.Ledger) }
+    ensures begun { OnErr result (IsBegun (L.text ledger.old) bytes.now (L.text ledger.new)) }
 {
     match append_all(ledger, bytes) {
         Ok(()) => Ok(()),

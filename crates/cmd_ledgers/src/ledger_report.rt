@@ -1,15 +1,15 @@
 // `bb report`: a ledger in, its report out.
-ghost use Rattle.std.specs.Prelude.{◌≡◌, ◌⊎◌, ◌++◌, ◌^◌, ◌-◌, ℕ, List, IfOk, IfErr, OnErr, OnOk, Ok, Err, Option, Result, false, true};
+ghost use Rattle.std.specs.Prelude.{◌≡◌, ◌++◌, ◌^◌, ◌-◌, ℕ, List, IfOk, IfErr, OnOk, Ok, Err, Option, Result, false};
 ghost use Rattle.std.specs.Io.KnownBytes.{Appends};
 ghost use Rattle.cmd_options.specs.declared.outcome.Outcome.{Outcome as Outcomes};
 ghost use Rattle.cmd_options.specs.declared.ended.Ended.{Ended as Ends};
-ghost use Rattle.cmd_options.specs.Ends.{EndsTold};
-ghost use Rattle.cmd_ledgers.specs.AtPath.{ReadsAt};
+ghost use Rattle.cmd_options.specs.Ends.{EndsTold, PrintsNothing};
+ghost use Rattle.cmd_ledgers.specs.AtPath.{IsAt};
 ghost use Rattle.cmd_ledgers.specs.LedgerReport.{ReportsLedger, left_text, outcome_by};
 ghost use Rattle.cmd_ledgers.specs.Merge.{IsLoaded};
 ghost use Rattle.cmd_ledgers.specs.Reading.{AreFirstBytes, EndsReading};
 ghost use Rattle.cmd_ledgers.specs.Report.{IsReport};
-ghost use Rattle.cmd_ledgers.specs.Reporting.{ReadsFirst, ReportsFrom, SaysWhy, WritesReport};
+ghost use Rattle.cmd_ledgers.specs.Reporting.{ReportsFrom, SaysWhy, WritesReport};
 
 use crate::board_report::report;
 use crate::reading::load_from;
@@ -36,7 +36,7 @@ pub fn cmd_report<H: Files, P: ReportForm, W: Write, E: Write>(
     faults: &mut E,
 ) -> Outcome
     ensures { (ended : Result Outcomes Ends) × (said : Option (List ℕ))
-        × ReportsFrom (P.is_text form.now) (ReadsAt (H.holds host.now path.now)) (W.contents answers.old)
+        × ReportsFrom (P.is_text form.now) (IsAt (H.holds host.now path.now)) (W.contents answers.old)
         (W.contents answers.new) ended
         × SaysWhy why ended (E.contents faults.old) said × EndsTold ended said (E.contents faults.new) result }
 {
@@ -56,7 +56,7 @@ pub fn cmd_report_stream<P: ReportForm, R: Read, W: Write, E: Write>(
     faults: &mut E,
 ) -> Outcome
     ensures { (ended : Result Outcomes Ends) × (said : Option (List ℕ))
-        × ReportsFrom (P.is_text form.now) (ReadsFirst (R.remaining input.old) (2 ^ 64 - 1))
+        × ReportsFrom (P.is_text form.now) (AreFirstBytes (R.remaining input.old) (2 ^ 64 - 1))
         (W.contents answers.old) (W.contents answers.new) ended
         × SaysWhy why ended (E.contents faults.old) said × EndsTold ended said (E.contents faults.new) result }
 {
@@ -76,7 +76,7 @@ fn report_at<H: Files, P: ReportForm, W: Write, E: Write>(
     answers: &mut W,
     faults: &mut E,
 ) -> Result<Outcome, Ended>
-    ensures reports { ReportsFrom (P.is_text form.now) (ReadsAt (H.holds host.now path.now))
+    ensures reports { ReportsFrom (P.is_text form.now) (IsAt (H.holds host.now path.now))
         (W.contents answers.old) (W.contents answers.new) result }
     ensures says { SaysWhy why result (E.contents faults.old) (E.contents faults.new) }
 {
@@ -93,7 +93,7 @@ fn report_stream<P: ReportForm, R: Read, W: Write, E: Write>(
     answers: &mut W,
     faults: &mut E,
 ) -> Result<Outcome, Ended>
-    ensures reports { ReportsFrom (P.is_text form.now) (ReadsFirst (R.remaining input.old) (2 ^ 64 - 1))
+    ensures reports { ReportsFrom (P.is_text form.now) (AreFirstBytes (R.remaining input.old) (2 ^ 64 - 1))
         (W.contents answers.old) (W.contents answers.new) result }
     ensures says { SaysWhy why result (E.contents faults.old) (E.contents faults.new) }
 {
@@ -103,8 +103,7 @@ fn report_stream<P: ReportForm, R: Read, W: Write, E: Write>(
 
 // The board of the ledger that a stream has in its first bytes, up to a limit, and what of it wasn't kept.
 fn load_stream<R: Read>(alloc: Global, input: &mut R, limit: u64) -> Result<(Board, Left), Ended>
-    ensures ok { IfOk result (λ l. IsLoaded (ReadsFirst (R.remaining input.old) limit) (Ok l)) }
-    ensures err { IfErr result (λ e. IsLoaded (ReadsFirst (R.remaining input.old) limit) (Err e)) }
+    ensures { IfOk result (λ l. IsLoaded (AreFirstBytes (R.remaining input.old) limit) l) }
 {
     match load_from(alloc, input, limit) {
         Ok(loaded) => Ok(loaded),
@@ -125,8 +124,7 @@ fn report_loaded<P: ReportForm, W: Write, E: Write>(
 ) -> Result<Outcome, Ended>
     ensures ok { IfOk result (WritesReport (P.is_text form.now) board.now left.now (W.contents answers.old)
         (W.contents answers.new)) }
-    ensures err { IfErr result (λ e. ((e ≡ Ended.NoMemory) × (W.contents answers.new ≡ W.contents answers.old))
-        ⊎ (e ≡ Ended.Stream)) }
+    ensures err { IfErr result (λ e. PrintsNothing e (W.contents answers.old) (W.contents answers.new)) }
     ensures says { SaysWhy why result (E.contents faults.old) (E.contents faults.new) }
 {
     let reason = reason_for(alloc, why, left)?;
@@ -146,8 +144,7 @@ pub fn report_board<P: ReportForm, W: Write>(
 ) -> Result<Outcome, Ended>
     ensures ok { IfOk result (WritesReport (P.is_text form.now) board.now left.now (W.contents answers.old)
         (W.contents answers.new)) }
-    ensures err { IfErr result (λ e. ((e ≡ Ended.NoMemory) × (W.contents answers.new ≡ W.contents answers.old))
-        ⊎ (e ≡ Ended.Stream)) }
+    ensures err { IfErr result (λ e. PrintsNothing e (W.contents answers.old) (W.contents answers.new)) }
 {
     // The proof needs that it is a board.
     let _ = board.root();

@@ -1,11 +1,11 @@
 // `bb mend`: a damaged ledger in, what can be kept of it out.
-ghost use Rattle.std.specs.Prelude.{◌≡◌, ◌⊎◌, ◌++◌, ◌^◌, ◌-◌, IfErr, IfOk, List, ℕ, OnOk, Result};
+ghost use Rattle.std.specs.Prelude.{◌≡◌, ◌++◌, ◌^◌, ◌-◌, IfErr, IfOk, List, ℕ, OnOk, Result};
 ghost use Rattle.std.specs.Io.KnownBytes.{Appends};
 ghost use Rattle.cmd_options.specs.declared.outcome.Outcome.{Outcome as Outcomes};
 ghost use Rattle.cmd_options.specs.declared.ended.Ended.{Ended as Ends};
 ghost use Rattle.cmd_options.specs.Ends.{EndsTold};
-ghost use Rattle.files.specs.Paths.{IsKept, IsKeptBut, IsPut};
-ghost use Rattle.cmd_ledgers.specs.AtPath.{IsAt};
+ghost use Rattle.files.specs.Paths.{IsKeptBut, IsPut};
+ghost use Rattle.cmd_ledgers.specs.AtPath.{IsAt, LeavesOut};
 ghost use Rattle.cmd_ledgers.specs.Reading.{AreFirstBytes};
 ghost use Rattle.cmd_ledgers.specs.Mend.{MendsAt, MendsInto, mended_text, outcome_of_dropped};
 
@@ -131,9 +131,8 @@ fn put_and_tell<H: Files, W: Write>(
         (H.holds host.new)
         × Appends (W.contents answers.old) (W.contents answers.new) (mended_text tally.now dropped)
         × (o ≡ outcome_of_dropped dropped)) }
-    ensures err { IfErr result (λ e. (IsKept (H.holds host.old) (H.holds host.new)
-        × (W.contents answers.new ≡ W.contents answers.old))
-        ⊎ ((e ≡ Ended.Stream) × IsPut (H.tells_same host.old) out.now (H.Made.text made) (H.holds host.old)
+    ensures err { IfErr result (λ e. LeavesOut e (H.holds host.old) (H.holds host.new) (W.contents answers.old)
+        (W.contents answers.new) (IsPut (H.tells_same host.old) out.now (H.Made.text made) (H.holds host.old)
         (H.holds host.new))) }
 {
     let mut said = Vec::new(alloc);

@@ -1,12 +1,12 @@
 // From a damaged ledger to the ledger of what can be kept of it.
-ghost use Rattle.std.specs.Prelude.{◌≡◌, ◌++◌, List, [], ℕ, IfErr, IfOk, OnOk};
+ghost use Rattle.std.specs.Prelude.{◌≡◌, ◌⊎◌, ◌++◌, List, [], ℕ, IfErr, IfOk, OnOk};
 ghost use Rattle.machine_text.specs.Packed.{Packed, entry_of};
 ghost use Rattle.law_tree.specs.Used.{InOrder};
 ghost use Rattle.ledger.specs.LedgerText.{HasHeader};
 ghost use Rattle.cmd_lines.specs.Lines.{AreLines};
 ghost use Rattle.cmd_lines.specs.Taken.{AreTakenInTurn};
-ghost use Rattle.cmd_ledgers.specs.Reading.{AreFirstBytes, EndsBehindHeader, EndsReading};
-ghost use Rattle.cmd_ledgers.specs.Mend.{EndsMendingInto, IsMended, MendsInto};
+ghost use Rattle.cmd_ledgers.specs.Reading.{AreFirstBytes};
+ghost use Rattle.cmd_ledgers.specs.Mend.{IsMended, MendsInto};
 ghost use Rattle.cmd_ledgers.specs.inside.Mending.{LineMends, MendsBehind};
 
 use crate::mender::Mender;
@@ -31,7 +31,7 @@ pub fn mend_into<R: Read, L: LedgerOut>(
 ) -> Result<(Tally, u64), Stopped>
     ensures ok { IfOk result (λ told. (text : List ℕ) × AreFirstBytes (R.remaining from.old) limit text
         × MendsInto text told.0 told.1 (L.text ledger.old) (L.text ledger.new)) }
-    ensures err { IfErr result (λ e. EndsMendingInto (R.remaining from.old) limit e (ledger.new ≡ ledger.old)) }
+    ensures err { IfErr result (λ e. (ledger.new ≡ ledger.old) ⊎ (e ≡ Stopped.Ended Ended.Ledger)) }
 {
     let (board, dropped) = mend_from(alloc, from, limit)?;
     match write_whole(alloc, &board, ledger) {
@@ -43,9 +43,8 @@ pub fn mend_into<R: Read, L: LedgerOut>(
 /// The board of what can be kept of the damaged ledger that a reader has in its first bytes, up to a limit: each line
 /// behind its header is offered in turn. Answers how many of them weren't taken, too.
 pub fn mend_from<R: Read>(alloc: Global, from: &mut R, limit: u64) -> Result<(Board, u64), Stopped>
-    ensures ok { IfOk result (λ m. (text : List ℕ) × AreFirstBytes (R.remaining from.old) limit text
+    ensures { IfOk result (λ m. (text : List ℕ) × AreFirstBytes (R.remaining from.old) limit text
         × IsMended text m.0 m.1) }
-    ensures err { IfErr result (EndsReading (R.remaining from.old) limit) }
 {
     let mut buffer = [0; MAX_HEADER_BYTES];
     let room = limit.min(MAX_HEADER_BYTES as u64) as usize;
@@ -74,10 +73,9 @@ fn mend_behind<R: Read>(
     limit: u64,
 ) -> Result<(Board, u64), Stopped>
     requires { (u : ℕ) × InOrder u (entry_of root) }
-    ensures ok { IfOk result (λ m. (m.0.root ≡ root)
+    ensures { IfOk result (λ m. (m.0.root ≡ root)
         × ((more : List ℕ) × AreFirstBytes (R.remaining from.old) limit more
         × MendsBehind root (first.now ++ more) m.0.records m.1)) }
-    ensures err { IfErr result EndsBehindHeader }
 {
     let mut mender = mender_of(alloc, root)?;
     // The proof needs that the root is a table.
@@ -89,8 +87,7 @@ fn mend_behind<R: Read>(
 // A board of this root to which nothing was offered.
 fn mender_of(alloc: Global, root: Table) -> Result<Mender, Ended>
     requires { (u : ℕ) × InOrder u (entry_of root) }
-    ensures ok { IfOk result (λ m. (m.board.root ≡ root) × (m.board.records ≡ []) × (m.dropped ≡ 0)) }
-    ensures err { IfErr result (λ e. e ≡ Ended.NoMemory) }
+    ensures { IfOk result (λ m. (m.board.root ≡ root) × (m.board.records ≡ []) × (m.dropped ≡ 0)) }
 {
     match Board::new(alloc, root) {
         Ok(board) => Ok(Mender { board, dropped: 0 }),
@@ -108,10 +105,9 @@ fn take_all<R: Read>(
     limit: u64,
     mender: &mut Mender,
 ) -> Result<(), Stopped>
-    ensures ok { OnOk result ((more : List ℕ) × AreFirstBytes (R.remaining from.old) limit more
+    ensures { OnOk result ((more : List ℕ) × AreFirstBytes (R.remaining from.old) limit more
         × ((lines : List (List ℕ)) × AreLines (first.now ++ more) lines
         × AreTakenInTurn LineMends mender.old lines mender.new)) }
-    ensures err { IfErr result EndsBehindHeader }
 {
     let mut lines = LineLoop::new(alloc);
     lines.take(first, mender)?;

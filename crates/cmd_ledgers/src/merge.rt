@@ -4,9 +4,9 @@ ghost use Rattle.cmd_options.specs.declared.outcome.Outcome.{Outcome as Outcomes
 ghost use Rattle.cmd_options.specs.declared.ended.Ended.{Ended as Ends};
 ghost use Rattle.cmd_options.specs.Ends.{EndsTold};
 ghost use Rattle.files.specs.Paths.{IsBlank, IsKeptBut};
-ghost use Rattle.cmd_ledgers.specs.AtPath.{FailsWriting, MergesAt, ReadsAt};
-ghost use Rattle.cmd_ledgers.specs.Merge.{AreMerged, EndsMergingInto, EndsTakingIn, IsLoaded, MergesInto, TakesIn, count_text, first_left, merged_text, rewritten};
-ghost use Rattle.cmd_ledgers.specs.Reading.{AreFirstBytes, EndsReadingOf};
+ghost use Rattle.cmd_ledgers.specs.AtPath.{IsAt, MergesAt};
+ghost use Rattle.cmd_ledgers.specs.Merge.{AreMerged, MergesInto, TakesIn, count_text, first_left, merged_text};
+ghost use Rattle.cmd_ledgers.specs.Reading.{AreFirstBytes};
 
 use crate::faults::by_merge;
 use crate::reading::load_of;
@@ -69,11 +69,9 @@ fn merged<H: Files>(
     merging: Merging<'_>,
     host: &H,
 ) -> Result<(H::Made, Tally, Left), Ended>
-    ensures ok { IfOk result (λ j. (begun : Option (List ℕ)) × IsBlank begun
-        × MergesInto (ReadsAt (H.holds host.now merging.entry.first.now))
-        (ReadsAt (H.holds host.now merging.entry.second.now)) j.1 j.2 begun (H.Made.text j.0)) }
-    ensures err { IfErr result (λ e. AreMerged (ReadsAt (H.holds host.now merging.entry.first.now))
-        (ReadsAt (H.holds host.now merging.entry.second.now)) (Err e) ⊎ FailsWriting e) }
+    ensures { IfOk result (λ j. (begun : Option (List ℕ)) × IsBlank begun
+        × MergesInto (IsAt (H.holds host.now merging.entry.first.now))
+        (IsAt (H.holds host.now merging.entry.second.now)) j.1 j.2 begun (H.Made.text j.0)) }
 {
     let mut made = made_for(host, merging.out, &[merging.first, merging.second])?;
     let first = AtPath {
@@ -121,8 +119,7 @@ pub fn merge_into<A: LedgerSource, B: LedgerSource, L: LedgerOut>(
 ) -> Result<(Tally, Left), Ended>
     ensures ok { IfOk result (λ told. MergesInto (A.reads first.now) (B.reads second.now) told.0 told.1
         (L.text ledger.old) (L.text ledger.new)) }
-    ensures err { IfErr result (λ e. EndsMergingInto (A.reads first.now) (B.reads second.now) e
-        (ledger.new ≡ ledger.old)) }
+    ensures err { IfErr result (λ e. (ledger.new ≡ ledger.old) ⊎ (e ≡ Ended.Ledger)) }
 {
     let (board, left) = merge_of(alloc, first, second)?;
     write_whole(alloc, &board, ledger)?;
@@ -138,8 +135,7 @@ pub fn merge_of<A: LedgerSource, B: LedgerSource>(
     first: &A,
     second: &B,
 ) -> Result<(Board, Left), Ended>
-    ensures ok { IfOk result (λ j. AreMerged (A.reads first.now) (B.reads second.now) (Ok j)) }
-    ensures err { IfErr result (λ e. AreMerged (A.reads first.now) (B.reads second.now) (Err e)) }
+    ensures { IfOk result (λ j. AreMerged (A.reads first.now) (B.reads second.now) j) }
 {
     let (mut board, first_left) = load_source(alloc, first)?;
     let second_left = take_source(alloc, &mut board, second)?;
@@ -158,10 +154,7 @@ fn earlier(first: Left, second: Left) -> Left
 
 // Takes the records of a ledger into a board of its root, and answers what wasn't kept of it.
 fn take_source<S: LedgerSource>(alloc: Global, board: &mut Board, source: &S) -> Result<Left, Ended>
-    ensures ok { IfOk result (λ left. (text : List ℕ) × S.reads source.now (Ok text)
-        × TakesIn board.old text left board.new) }
-    ensures err { IfErr result (λ e. S.reads source.now (Err e)
-        ⊎ ((text : List ℕ) × S.reads source.now (Ok text) × EndsTakingIn board.old.root text e)) }
+    ensures { IfOk result (λ left. (text : List ℕ) × S.reads source.now text × TakesIn board.old text left board.new) }
 {
     let mut opened = source.open()?;
     match take_from(alloc, board, &mut opened.reader, opened.length) {
@@ -178,9 +171,8 @@ fn take_from<R: Read>(
     from: &mut R,
     limit: u64,
 ) -> Result<Left, Stopped>
-    ensures ok { IfOk result (λ left. (text : List ℕ) × AreFirstBytes (R.remaining from.old) limit text
+    ensures { IfOk result (λ left. (text : List ℕ) × AreFirstBytes (R.remaining from.old) limit text
         × TakesIn board.old text left board.new) }
-    ensures err { IfErr result (EndsReadingOf board.old.root (R.remaining from.old) limit) }
 {
     let root = *board.root();
     let (other, left) = load_of(alloc, root, from, limit)?;

@@ -7,7 +7,7 @@ ghost use Rattle.law_tree.specs.Used.{InOrder};
 ghost use Rattle.ledger.specs.Limits.{header_byte_limit};
 ghost use Rattle.ledger.specs.LedgerText.{HasHeader, ReadsIn};
 ghost use Rattle.ledger.specs.Loading.{IsFed};
-ghost use Rattle.cmd_ledgers.specs.Reading.{AreFirstBytes, BeginsWithRoot, EndsBehindHeader, EndsReading, EndsReadingOf, IsLoadedFrom};
+ghost use Rattle.cmd_ledgers.specs.Reading.{AreFirstBytes, BeginsWithRoot, EndsBehindHeader, EndsReading, IsLoadedFrom};
 ghost use Rattle.cmd_ledgers.specs.inside.{BeginsReading};
 
 use crate::faults::by_load;
@@ -42,8 +42,7 @@ pub(crate) fn load_of<R: Read>(
     limit: u64,
 ) -> Result<(Board, Left), Stopped>
     requires { (u : ℕ) × InOrder u (entry_of root) }
-    ensures ok { IfOk result (λ l. (l.0.root ≡ root) × IsLoadedFrom (R.remaining from.old) limit l.0 l.1) }
-    ensures err { IfErr result (EndsReadingOf root (R.remaining from.old) limit) }
+    ensures { IfOk result (λ l. (l.0.root ≡ root) × IsLoadedFrom (R.remaining from.old) limit l.0 l.1) }
 {
     let mut buffer = [0; MAX_HEADER_BYTES];
     let room = limit.min(MAX_HEADER_BYTES as u64) as usize;

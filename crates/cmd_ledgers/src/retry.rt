@@ -1,15 +1,16 @@
 // `bb retry`: the holdouts of a ledger are tried again.
-ghost use Rattle.std.specs.Prelude.{◌≡◌, ◌≢◌, ◌⊎◌, Err, IfErr, IfOk, IfSome, OnOk, Result};
+ghost use Rattle.std.specs.Prelude.{◌≡◌, ◌⊎◌, IfErr, IfOk, OnErr, OnOk, Result};
 ghost use Rattle.cert.specs.Certified.{IsShownBy};
 ghost use Rattle.cert.specs.Claim.{ending_by};
 ghost use Rattle.cert.specs.Kinds.{recorded};
 ghost use Rattle.ledger.specs.Held.{IsHoldout};
 ghost use Rattle.cmd_options.specs.declared.outcome.Outcome.{Outcome as Outcomes};
 ghost use Rattle.cmd_options.specs.declared.ended.Ended.{Ended as Ends};
-ghost use Rattle.cmd_options.specs.Ends.{EndsTold};
+ghost use Rattle.cmd_options.specs.Ends.{EndsTold, PrintsNothing};
 ghost use Rattle.files.specs.Paths.{IsKeptBut};
-ghost use Rattle.cmd_ledgers.specs.Retry.{ResolvesOrStays, KeepsInStep, CountsFailures, AtSomeTime, ChangesBy, ChangesNothing, EndsAtHoldout, EndsRetrying, IsTried, AreRetried, TearsLineOf};
-ghost use Rattle.cmd_ledgers.specs.RetryAt.{EndsRetriedLedger, EndsRetriedWhole, RetriesAt, RetriesLedger, RetriesWhole};
+ghost use Rattle.cmd_ledgers.specs.Retry.{ResolvesOrStays, KeepsInStep, AtSomeTime, ChangesBy, ChangesNothing, MayTear, LeavesRetried, IsTried, AreRetried, TearsLineOf};
+ghost use Rattle.cmd_ledgers.specs.GoingOn.{LeavesLedger, MayBeCut, kept_part};
+ghost use Rattle.cmd_ledgers.specs.RetryAt.{RetriesAt, RetriesLedger, RetriesWhole};
 
 use crate::going_on::{cut_off, load_held, open_held};
 use crate::ledger_changes::append_to;
@@ -84,9 +85,9 @@ pub fn retry_ledger<F: Read + Drop, L: LedgerOut, D: Decider, P: Progress, W: Wr
 ) -> Result<Outcome, Ended>
     ensures retries { IfOk result (RetriesLedger (AtSomeTime D D.answers) (F.remaining held.reader) held.length
         (L.text ledger.old) (L.text ledger.new) (W.contents answers.old) (W.contents answers.new)) }
-    ensures ended { IfErr result (λ e. EndsRetriedLedger (AtSomeTime D D.answers)
-        (L.failures ledger.old ≢ L.failures ledger.new) e (F.remaining held.reader) held.length
-        (L.text ledger.old) (L.text ledger.new) (W.contents answers.old) (W.contents answers.new)) }
+    ensures silent { IfErr result (λ e. PrintsNothing e (W.contents answers.old) (W.contents answers.new)) }
+    ensures leaves { OnErr result (LeavesLedger (LeavesRetried (AtSomeTime D D.answers)) (F.remaining held.reader)
+        held.length (L.text ledger.old) (L.text ledger.new)) }
 {
     let (mut board, left) = load_held(alloc, held)?;
     retry_loaded(alloc, &mut board, &left, ledger, decider, progress, answers)
@@ -104,9 +105,10 @@ fn retry_loaded<L: LedgerOut, D: Decider, P: Progress, W: Write>(
 ) -> Result<Outcome, Ended>
     ensures retries { IfOk result (RetriesWhole (AtSomeTime D D.answers) board.old left.now (L.text ledger.old)
         (L.text ledger.new) (W.contents answers.old) (W.contents answers.new)) }
-    ensures ended { IfErr result (λ e. EndsRetriedWhole (AtSomeTime D D.answers)
-        (L.failures ledger.old ≢ L.failures ledger.new) e board.old left.now
-        (L.text ledger.old) (L.text ledger.new) (W.contents answers.old) (W.contents answers.new)) }
+    ensures silent { IfErr result (λ e. PrintsNothing e (W.contents answers.old) (W.contents answers.new)) }
+    ensures leaves { OnErr result (MayBeCut left.now (L.text ledger.old) (L.text ledger.new)
+        ⊎ LeavesRetried (AtSomeTime D D.answers) board.old (kept_part left.now (L.text ledger.old)) board.new
+        (L.text ledger.new)) }
 {
     cut_off(left, ledger)?;
     retry_holdouts(alloc, board, decider, ledger, progress)?;
@@ -127,9 +129,8 @@ pub fn retry_holdouts<L: LedgerOut, D: Decider, P: Progress>(
     ensures kept { KeepsInStep result board.old (L.text ledger.old) board.new (L.text ledger.new) }
     ensures order { OnOk result (AreRetried (AtSomeTime D D.answers) board.old (L.text ledger.old) board.new
         (L.text ledger.new)) }
-    ensures ended { IfErr result (λ e. EndsRetrying (AtSomeTime D D.answers) e board.old
+    ensures leaves { OnErr result (LeavesRetried (AtSomeTime D D.answers) board.old
         (L.text ledger.old) board.new (L.text ledger.new)) }
-    ensures counted { CountsFailures result (L.failures ledger.old) (L.failures ledger.new) }
 {
     for table in board.holdouts()? {
         progress.tell(board);
@@ -150,10 +151,8 @@ fn retry<L: LedgerOut, D: Decider>(
     ensures kept { KeepsInStep result board.old (L.text ledger.old) board.new (L.text ledger.new) }
     ensures tried { OnOk result (IsTried (AtSomeTime D D.answers) board.old.format t.now board.old.records
         (L.text ledger.old) board.new.records (L.text ledger.new)) }
-    ensures ended { IfErr result (λ e. EndsAtHoldout
-        (AtSomeTime D D.answers) board.old.format t.now e board.old.records (L.text ledger.old) board.new.records
-        (L.text ledger.new)) }
-    ensures counted { CountsFailures result (L.failures ledger.old) (L.failures ledger.new) }
+    ensures leaves { OnErr result (MayTear (AtSomeTime D D.answers) board.old.format t.now board.old.records
+        (L.text ledger.old) board.new.records (L.text ledger.new)) }
 {
     let Decided {
         record: made,
@@ -179,11 +178,10 @@ fn take<L: LedgerOut>(
     ensures kept { KeepsInStep result board.old (L.text ledger.old) board.new (L.text ledger.new) }
     ensures changes { OnOk result (ChangesBy board.old.format (ending_by (recorded r.now).claim) (recorded r.now)
         board.old.records (L.text ledger.old) board.new.records (L.text ledger.new)) }
-    ensures ended { IfErr result (λ e. ChangesNothing e board.old.records (L.text ledger.old) board.new.records
+    ensures leaves { OnErr result (ChangesNothing board.old.records (L.text ledger.old) board.new.records
         (L.text ledger.new)
-        ⊎ TearsLineOf board.old.format (recorded r.now) e board.old.records (L.text ledger.old) board.new.records
+        ⊎ TearsLineOf board.old.format (recorded r.now) board.old.records (L.text ledger.old) board.new.records
         (L.text ledger.new)) }
-    ensures counted { CountsFailures result (L.failures ledger.old) (L.failures ledger.new) }
 {
     // The proof needs that it is a board.
     let _ = board.root();
@@ -203,7 +201,7 @@ fn gains(board: &mut Board, r: &Record, judged: Judged, line: &mut Vec<u8>) -> R
     ensures format { board.new.format ≡ board.old.format }
     ensures ok { IfOk result (λ gained. ResolvesOrStays board.old.format (recorded r.now) gained board.old.records
         line.old.items board.new.records line.new.items) }
-    ensures err { IfErr result (λ e. (e ≡ Ended.NoMemory) × (board.new.records ≡ board.old.records)) }
+    ensures err { OnErr result (board.new.records ≡ board.old.records) }
 {
     match board.offer_judged_line(r, judged, line) {
         Ok(Taken::Settled) => Ok(true),

@@ -22,7 +22,7 @@ pub(crate) fn outcome_of_left(left: &Left) -> Outcome
 /// the text, and then the ledger is as it was; `Ledger` where it fails.
 pub fn write_whole<L: LedgerOut>(alloc: Global, board: &Board, ledger: &mut L) -> Result<(), Ended>
     ensures ok { OnOk result (L.text ledger.new ≡ rewritten board.now (L.text ledger.old)) }
-    ensures err { IfErr result (λ e. ((e ≡ Ended.NoMemory) × (ledger.new ≡ ledger.old)) ⊎ (e ≡ Ended.Ledger)) }
+    ensures err { IfErr result (λ e. (ledger.new ≡ ledger.old) ⊎ (e ≡ Ended.Ledger)) }
 {
     let mut text = Vec::new(alloc);
     board.write_ledger(&mut text)?;

@@ -1,5 +1,5 @@
 // Where ledgers are read from.
-ghost use Rattle.std.specs.Prelude.{Ok, Err, IfOk, IfErr};
+ghost use Rattle.std.specs.Prelude.{IfOk};
 ghost use Rattle.cmd_ledgers.specs.Merge.{IsLoaded};
 
 use crate::reading::load_from;
@@ -11,25 +11,22 @@ use std::io::{self, Read};
 
 /// Where a ledger is read from.
 pub trait LedgerSource {
-    ghost use Rattle.std.specs.Prelude.{List, ℕ, Result, Ok, Err, IfOk, IfErr};
-    ghost use Rattle.cmd_options.specs.declared.ended.Ended.{Ended};
+    ghost use Rattle.std.specs.Prelude.{List, ℕ, IfOk};
     ghost use Rattle.cmd_ledgers.specs.Reading.{AreFirstBytes};
 
     /// What it is read by.
     type Reader: Read + Drop;
 
-    /// What may come of reading it.
-    ghost reads: { Self → Result (List ℕ) Ended → Type 0 };
+    /// What it may hold.
+    ghost reads: { Self → List ℕ → Type 0 };
 
     /// Opens it, to be read as far as it goes then.
     fn open(&self) -> Result<Opened<Self::Reader>, Ended>
-        ensures ok { IfOk result (λ opened. (text : List ℕ)
-            → AreFirstBytes (Self.Reader.remaining opened.reader) opened.length text → reads self.now (Ok text)) }
-        ensures err { IfErr result (λ e. reads self.now (Err e)) };
+        ensures { IfOk result (λ opened. (text : List ℕ)
+            → AreFirstBytes (Self.Reader.remaining opened.reader) opened.length text → reads self.now text) };
 
     /// What ends a command of which a read of it fails.
-    fn failed(&self, fault: &io::Error) -> Ended
-        ensures { reads self.now (Err result) };
+    fn failed(&self, fault: &io::Error) -> Ended;
 }
 
 // A ledger by its path.
@@ -40,11 +37,11 @@ pub(crate) struct AtPath<'a, H> {
 }
 
 impl<H: Files> LedgerSource for AtPath<'_, H> {
-    ghost use Rattle.cmd_ledgers.specs.AtPath.{ReadsAt};
+    ghost use Rattle.cmd_ledgers.specs.AtPath.{IsAt};
 
     type Reader = H::Reader;
 
-    ghost reads = { λ source. ReadsAt (H.holds source.host.now source.path.now) };
+    ghost reads = { λ source. IsAt (H.holds source.host.now source.path.now) };
 
     fn open(&self) -> Result<Opened<H::Reader>, Ended> {
         match self.host.open_to_end(self.path) {
@@ -63,8 +60,7 @@ pub(crate) fn load_source<S: LedgerSource>(
     alloc: Global,
     source: &S,
 ) -> Result<(Board, Left), Ended>
-    ensures ok { IfOk result (λ l. IsLoaded (S.reads source.now) (Ok l)) }
-    ensures err { IfErr result (λ e. IsLoaded (S.reads source.now) (Err e)) }
+    ensures { IfOk result (λ l. IsLoaded (S.reads source.now) l) }
 {
     let mut opened = source.open()?;
     match load_from(alloc, &mut opened.reader, opened.length) {

@@ -9,7 +9,7 @@ use Rattle.cmd_options.specs.Outcome.{ended_text, outcome_of}
 use Rattle.cmd_options.specs.declared.outcome.Outcome.{Outcome}
 use Rattle.cmd_options.specs.declared.outcome.Outcome.TheVariants.{Failed as HasFailed}
 use Rattle.cmd_options.specs.declared.ended.Ended.{Ended}
-use Rattle.cmd_options.specs.declared.ended.Ended.TheVariants.{NoMemory}
+use Rattle.cmd_options.specs.declared.ended.Ended.TheVariants.{NoMemory, Stream}
 use Rattle.cmd_options.specs.declared.stopped.Stopped.{Stopped}
 use Rattle.cmd_options.specs.declared.stopped.Stopped.TheVariants.{Failed, Ended as EndedBy}
 
@@ -31,3 +31,7 @@ abbrev pub EndsTold : Result Outcome Ended → Option (List ℕ) → Option (Lis
 EndsTold (Ok o) said new_said outcome = (outcome ≡ o) × (new_said ≡ said)
 EndsTold (Err e) said new_said outcome = ((outcome ≡ outcome_of e) × Appends said new_said (ended_text e))
     ⊎ (outcome ≡ HasFailed)
+
+-- a command that this ended early has printed nothing, unless a stream failed
+abbrev pub PrintsNothing : Ended → Option (List ℕ) → Option (List ℕ) → Type 0
+PrintsNothing e said new_said = (new_said ≡ said) ⊎ (e ≡ Stream)

@@ -11,15 +11,12 @@ use Rattle.ledger.specs.Contents.{Contents}
 use Rattle.ledger.specs.LedgerText.{HasHeader, LoadGives, ReadsIn}
 use Rattle.ledger.specs.Loading.{Loading, StandsAfter}
 use Rattle.ledger.specs.declared.left.Left.{Left}
-use Rattle.ledger.specs.declared.faults.LoadFault.{LoadFault}
 use Rattle.ledger.proofs.StageLaws.{fed_more}
-use Rattle.cmd_ledgers.specs.Faults.{ended_by_load}
 use Rattle.cmd_ledgers.specs.Reading.{AreFirstBytes, BeginsWithRoot}
-use Rattle.cmd_ledgers.proofs.FirstBytes.{all_first, finish_ends, first_behind}
+use Rattle.cmd_ledgers.proofs.FirstBytes.{all_first, first_behind}
 use Rattle.cmd_ledgers.proofs.Joining.{load_taken}
 use Rattle.cmd_ledgers.proofs.ReadLaws.{behind_loads}
 use Rattle.ledger.proofs.Feeding.{header_more}
-use Rattle.cmd_options.specs.declared.ended.Ended.TheVariants.{NoMemory}
 use Rattle.cmd_page.specs.Sums.{IsSummedBehind, IsSummedFrom}
 use Rattle.cmd_page.specs.inside.{FeedsBoth}
 
@@ -101,17 +98,6 @@ summed_behind old mid new hasher mid_hasher new_hasher root first read limit res
         is = digests (first ++ more) (both.summed [] empty);
       },
     )
-
--- why they aren't: memory is refused
-pub summing_ends : (old mid new : Loading) (hasher mid_hasher new_hasher : Sha256) (root : Packed) (first : List ℕ) (read : Option (List ℕ)) (limit : ℕ) (rest : List ℕ) (f : LoadFault)
-    → old.root ≡ root → StandsAfter old [] → HasHeader first root rest → FeedsBoth old hasher first mid mid_hasher
-    → ((more : List ℕ) × AreFirstBytes read limit more × FeedsBoth mid mid_hasher more new new_hasher)
-    → ((all : List ℕ) → StandsAfter new all → LoadGives new.root all (Err f)) → ended_by_load f ≡ NoMemory
-summing_ends old mid new hasher mid_hasher new_hasher root first read limit rest f same stands header before all gives =
-    let more = all.0 in
-    let both = fed_both old mid new hasher mid_hasher new_hasher first more before all.2 in
-    let is : LoadGives root (first ++ more) (Err f) = behind_loads old new root (first ++ more) (Err f) same stands both.fed gives in
-    finish_ends (first ++ more) root (rest ++ more) f (header_more first more root rest header) is
 
 -- and with the first bytes
 pub summed_from : {T E : Type 0} (old mid : Option (List ℕ)) (limit left : ℕ) (first : List ℕ) (root : Packed) (r : Result T E) (b : T → Contents) (left_of : T → Left) (sum : T → List ℕ) → BeginsWithRoot old mid limit first root → left ≡ limit - length first

@@ -1,5 +1,5 @@
 -- The page of a whole is that of the records of all.
-use Rattle.std.proofs.Common.{ℕ, ◌<◌, ◌^◌, Bool, List, length, Option, None, IfOk, Result, Ok, Err, [], inl, inr, refl, sym, subst, ap, ◌∙◌, append-nil}
+use Rattle.std.proofs.Common.{ℕ, ◌<◌, ◌^◌, Bool, List, length, Option, None, IfOk, Result, Ok, Err, ap, ◌∙◌}
 use Rattle.machine_text.specs.Packed.{Packed}
 use Rattle.cert.specs.Claim.{Recorded}
 use Rattle.ledger.specs.Contents.{Contents, IsOpenOn}
@@ -13,8 +13,7 @@ use Rattle.cmd_page.specs.Page.{IsPage, IsPageWith}
 use Rattle.cmd_page.specs.Counting.{HasCounted, census_numbers}
 use Rattle.cmd_page.specs.declared.census.Census.{Census}
 use Rattle.cmd_page.proofs.PageLaws.{counted_page, exact_census}
-use Rattle.cmd_parts.specs.Join.{EndsTelling, FailsFile, Findings, HoldsTree, SaysFirst, TellsAll, TellsParts, ended_by}
-use Rattle.std.specs.Io.KnownBytes.{Appends}
+use Rattle.cmd_parts.specs.Join.{Findings, TellsAll, TellsParts, ended_by}
 use Rattle.cmd_parts.specs.Gather.{IsGathered}
 use Rattle.cmd_page.specs.Folder.{IsListSum, TellsFolder, heading_of}
 
@@ -50,21 +49,3 @@ page_told title version program roots sum Finds folder said new_said faults new_
     } in
     record { roots = roots; sum = sum; is_sum = is_sum; tells = all; are_open = are_open }
 page_told title version program roots sum Finds folder said new_said faults new_faults whole sound census (Err e) gathered few tells is_sum are_open = tt
-
--- all is gathered, but the list of the ledgers isn't summed up
-pub ends_unlisted : (Finds : Findings) (folder : List ℕ) (e : Ended) (trunk : Contents) (parts : List Contents) (lines : List ℕ) (said faults new_faults : Option (List ℕ))
-    → HoldsTree Finds folder trunk parts lines → Appends faults new_faults lines → FailsFile e → EndsTelling Finds folder e said said faults new_faults
-ends_unlisted Finds folder e trunk parts lines said faults new_faults holds says why =
-    let first : SaysFirst Finds folder faults new_faults = record {
-      trunk = trunk;
-      left = holds.left;
-      reads = holds.reads;
-      met = holds.roots;
-      later = [];
-      are_open = subst (AreAll (IsOpenOn trunk)) (sym (append-nil holds.roots)) holds.are_open;
-      parts = parts;
-      said = holds.said;
-      are_met = holds.are_met;
-      says = subst (Appends faults new_faults) holds.all_lines says;
-    } in
-    record { why = inl (inl (inl why)); untold = inl refl; warns = inl (inr first) }

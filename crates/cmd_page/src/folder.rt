@@ -4,7 +4,8 @@ ghost use Rattle.ledger.specs.Contents.{Contents};
 ghost use Rattle.parts.specs.Parts.{joined_with};
 ghost use Rattle.parts.specs.Whole.{IsWhole};
 ghost use Rattle.cmd_parts.specs.AtPaths.{finds_at};
-ghost use Rattle.cmd_parts.specs.Join.{EndsTelling};
+ghost use Rattle.cmd_options.specs.Ends.{PrintsNothing};
+ghost use Rattle.cmd_parts.specs.Join.{WarnsFirst};
 ghost use Rattle.cmd_page.specs.Folder.{TellsFolder};
 
 use crate::census::Census;
@@ -33,8 +34,9 @@ pub(crate) fn write_folder_page<S: PartLedgers, W: Write, E: Write>(
 ) -> Result<Outcome, Ended>
     ensures tells { IfOk result (TellsFolder title.now maker.now.version.now maker.now.sum (S.finds parts.now)
         folder.now (W.contents answers.old) (W.contents answers.new) (E.contents faults.old) (E.contents faults.new)) }
-    ensures ended { IfErr result (λ e. EndsTelling (S.finds parts.now) folder.now e (W.contents answers.old)
-        (W.contents answers.new) (E.contents faults.old) (E.contents faults.new)) }
+    ensures silent { IfErr result (λ e. PrintsNothing e (W.contents answers.old) (W.contents answers.new)) }
+    ensures warned { IfErr result (WarnsFirst (S.finds parts.now) folder.now (E.contents faults.old)
+        (E.contents faults.new)) }
 {
     let mut counting = Counting {
         census: Census::new(),
@@ -78,8 +80,9 @@ pub fn folder_page_at<H: Files, W: Write, E: Write>(
     ensures tells { IfOk result (TellsFolder title.now maker.now.version.now maker.now.sum (finds_at (H.holds host.now))
         folder.now (W.contents answers.old) (W.contents answers.new) (E.contents faults.old)
         (E.contents faults.new)) }
-    ensures ended { IfErr result (λ e. EndsTelling (finds_at (H.holds host.now)) folder.now e (W.contents answers.old)
-        (W.contents answers.new) (E.contents faults.old) (E.contents faults.new)) }
+    ensures silent { IfErr result (λ e. PrintsNothing e (W.contents answers.old) (W.contents answers.new)) }
+    ensures warned { IfErr result (WarnsFirst (finds_at (H.holds host.now)) folder.now (E.contents faults.old)
+        (E.contents faults.new)) }
 {
     let parts = PartsAt {
         host,

@@ -1,7 +1,6 @@
 // The sum of the list of a folder's ledgers.
-ghost use Rattle.std.specs.Prelude.{◌≡◌, ◌++◌, codes, IfErr, IfOk, List, OnOk, ℕ};
+ghost use Rattle.std.specs.Prelude.{◌≡◌, ◌++◌, IfOk, List, OnOk, ℕ};
 ghost use Rattle.machine_text.specs.Text.{text_of};
-ghost use Rattle.cmd_parts.specs.Join.{FailsFile};
 ghost use Rattle.cmd_parts.specs.Split.{path_within};
 ghost use Rattle.cmd_page.specs.Folder.{AreListLines, IsListLine, IsListSum};
 
@@ -22,8 +21,7 @@ pub(crate) fn list_sum<S: PartLedgers>(
     parts: &S,
     roots: &[Table],
 ) -> Result<[u8; 32], Ended>
-    ensures ok { IfOk result (IsListSum (S.finds parts.now) folder.now roots.now) }
-    ensures err { IfErr result FailsFile }
+    ensures { IfOk result (IsListSum (S.finds parts.now) folder.now roots.now) }
 {
     let mut list = Vec::new(alloc);
     append_parts(alloc, folder, parts, roots, &mut list)?;
@@ -45,9 +43,8 @@ fn append_parts<S: PartLedgers>(
     roots: &[Table],
     list: &mut Vec<u8>,
 ) -> Result<(), Ended>
-    ensures ok { OnOk result ((lines : List ℕ) × AreListLines (S.finds parts.now) folder.now roots.now lines
+    ensures { OnOk result ((lines : List ℕ) × AreListLines (S.finds parts.now) folder.now roots.now lines
         × (list.new.items ≡ list.old.items ++ lines)) }
-    ensures err { IfErr result FailsFile }
 {
     for root in roots {
         append_part(alloc, folder, parts, root, list)?;
@@ -63,10 +60,9 @@ fn append_part<S: PartLedgers>(
     root: &Table,
     list: &mut Vec<u8>,
 ) -> Result<(), Ended>
-    ensures ok { OnOk result ((line : List ℕ)
+    ensures { OnOk result ((line : List ℕ)
         × IsListLine (S.finds parts.now) (path_within folder.now (text_of root.now)) (text_of root.now) line
         × (list.new.items ≡ list.old.items ++ line)) }
-    ensures err { IfErr result FailsFile }
 {
     let mut buffer = [0; TEXT_BYTES];
     let path = part_path(alloc, folder, root)?;
@@ -81,9 +77,8 @@ fn append_ledger<S: PartLedgers>(
     name: &[u8],
     list: &mut Vec<u8>,
 ) -> Result<(), Ended>
-    ensures ok { OnOk result ((line : List ℕ) × IsListLine (S.finds parts.now) path.now name.now line
+    ensures { OnOk result ((line : List ℕ) × IsListLine (S.finds parts.now) path.now name.now line
         × (list.new.items ≡ list.old.items ++ line)) }
-    ensures err { IfErr result FailsFile }
 {
     let Some(mut file) = parts.open(path)? else {
         return Ok(());

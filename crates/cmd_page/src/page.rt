@@ -2,7 +2,7 @@
 ghost use Rattle.std.specs.Prelude.{◌≡◌, ◌⊎◌, ℕ, List, IfOk, IfErr, OnOk};
 ghost use Rattle.std.specs.Io.KnownBytes.{Appends};
 ghost use Rattle.cmd_ledgers.specs.LedgerReport.{WritesLedger};
-ghost use Rattle.cmd_ledgers.specs.Reading.{AreFirstBytes, EndsReading};
+ghost use Rattle.cmd_ledgers.specs.Reading.{AreFirstBytes};
 ghost use Rattle.sha2.specs.Sha256.{sha256};
 ghost use Rattle.cmd_page.specs.Heading.{ledger_heading};
 ghost use Rattle.cmd_page.specs.Page.{IsPage};
@@ -48,8 +48,7 @@ pub fn write_ledger_page<R: Read, W: Write>(
     ensures ok { IfOk result (λ r. (text : List ℕ) × AreFirstBytes (R.remaining from.old) limit text
         × WritesLedger (IsPage (ledger_heading title.now maker.now.version.now maker.now.sum (sha256 text))) text
         r.0 r.1 (W.contents answers.old) (W.contents answers.new)) }
-    ensures err { IfErr result (λ e. (e ≡ Stopped.Ended Ended.Stream)
-        ⊎ (EndsReading (R.remaining from.old) limit e × (answers.new ≡ answers.old))) }
+    ensures err { IfErr result (λ e. (e ≡ Stopped.Ended Ended.Stream) ⊎ (answers.new ≡ answers.old)) }
 {
     let (board, left, sum) = load_summed(alloc, from, limit)?;
     let heading = Heading {

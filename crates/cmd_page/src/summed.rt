@@ -1,9 +1,9 @@
 // A ledger that is loaded and summed up as it is read.
-ghost use Rattle.std.specs.Prelude.{◌≡◌, ℕ, ◌+◌, ◌^◌, ◌<◌, ◌++◌, List, IfErr, IfOk, OnOk, length};
+ghost use Rattle.std.specs.Prelude.{◌≡◌, ℕ, ◌+◌, ◌^◌, ◌<◌, List, IfOk, OnOk, length};
 ghost use Rattle.machine_text.specs.Packed.{entry_of};
 ghost use Rattle.law_tree.specs.Used.{InOrder};
 ghost use Rattle.ledger.specs.LedgerText.{HasHeader};
-ghost use Rattle.cmd_ledgers.specs.Reading.{AreFirstBytes, EndsBehindHeader, EndsReading};
+ghost use Rattle.cmd_ledgers.specs.Reading.{AreFirstBytes};
 ghost use Rattle.cmd_page.specs.Sums.{IsSummedBehind, IsSummedFrom};
 ghost use Rattle.cmd_page.specs.inside.{FeedsBoth};
 
@@ -24,8 +24,7 @@ pub(crate) fn load_summed<R: Read>(
     from: &mut R,
     limit: u64,
 ) -> Result<(Board, Left, [u8; 32]), Stopped>
-    ensures ok { IfOk result (λ l. IsSummedFrom (R.remaining from.old) limit l.0 l.1 l.2) }
-    ensures err { IfErr result (EndsReading (R.remaining from.old) limit) }
+    ensures { IfOk result (λ l. IsSummedFrom (R.remaining from.old) limit l.0 l.1 l.2) }
 {
     let mut buffer = [0; MAX_HEADER_BYTES];
     let room = limit.min(MAX_HEADER_BYTES as u64) as usize;
@@ -45,9 +44,8 @@ fn load_behind<R: Read>(
     requires order { (u : ℕ) × InOrder u (entry_of root) }
     requires header { (rest : List ℕ) × HasHeader first.now root rest }
     requires small { length first.now + limit < 2 ^ 64 }
-    ensures ok { IfOk result (λ l. (l.0.root ≡ root)
+    ensures { IfOk result (λ l. (l.0.root ≡ root)
         × IsSummedBehind root first.now (R.remaining from.old) limit l.0 l.1 l.2) }
-    ensures err { IfErr result EndsBehindHeader }
 {
     let mut loader = Loader::new(alloc, root);
     let mut hasher = Sha256::new();
@@ -62,8 +60,7 @@ fn load_behind<R: Read>(
 // Feeds a piece to a loader and to a hasher.
 fn feed_both(loader: &mut Loader, hasher: &mut Sha256, piece: &[u8]) -> Result<(), Stopped>
     requires { loader.old.bytes + length piece.now < 2 ^ 64 }
-    ensures ok { OnOk result (FeedsBoth loader.old hasher.old piece.now loader.new hasher.new) }
-    ensures err { IfErr result EndsBehindHeader }
+    ensures { OnOk result (FeedsBoth loader.old hasher.old piece.now loader.new hasher.new) }
 {
     hasher.update(piece);
     match loader.feed(piece) {
@@ -80,9 +77,8 @@ fn feed_all<R: Read>(
     limit: u64,
 ) -> Result<(), Stopped>
     requires { loader.old.bytes + limit < 2 ^ 64 }
-    ensures ok { OnOk result ((more : List ℕ) × AreFirstBytes (R.remaining from.old) limit more
+    ensures { OnOk result ((more : List ℕ) × AreFirstBytes (R.remaining from.old) limit more
         × FeedsBoth loader.old hasher.old more loader.new hasher.new) }
-    ensures err { IfErr result EndsBehindHeader }
 {
     let mut buf = [0; PIECE_BYTES];
     let mut left = limit;

@@ -14,19 +14,13 @@ use Rattle.cert.specs.Scored.{with_score}
 use Rattle.ledger.specs.Contents.{Contents, IsBoard, IsOpenOn}
 use Rattle.ledger.specs.Held.{IsFit}
 use Rattle.ledger.specs.Records.{claim_in}
-use Rattle.ledger.specs.Tally.{AreAll, IsTally}
-use Rattle.ledger.specs.declared.left.Left.{Left}
-use Rattle.ledger.specs.declared.tally.Tally.{Tally}
+use Rattle.ledger.specs.Tally.{AreAll}
 use Rattle.ledger.proofs.Apart.{first_member, first_or_later, later_member}
 use Rattle.ledger.proofs.HeldLaws.{unmarked}
 use Rattle.ledger.proofs.OpenLaws.{open_taken, taken_new}
 use Rattle.cmd_ledgers.specs.Retry.{StaysInStep}
 use Rattle.cmd_ledgers.proofs.Retrying.{stays_by}
-use Rattle.cmd_options.specs.declared.ended.Ended.{Ended}
-use Rattle.cmd_options.specs.declared.ended.Ended.TheVariants.{BadHeader, WrongRoot, Stream, Ledger, File, HasPart, OutInFolder, Locked, NoMemory}
-use Rattle.cmd_parts.specs.Settling.{ComesFirst, EndsAtOne, EndsSettling, IsOpenBelow, SettlesMany, SettlesOne, with_last}
-use Rattle.cmd_ledgers.specs.GoingOn.{kept_part}
-use Rattle.cmd_parts.specs.Settle.{EndsWhole, settled_text}
+use Rattle.cmd_parts.specs.Settling.{ComesFirst, IsOpenBelow, LeavesSettled, MayTearLine, SettlesMany, SettlesOne, with_last}
 use Rattle.cmd_parts.specs.inside.{is_below}
 
 first_before : {X : Type 0} (R : X → X → Type 0) (x : X) (xs : List X) → AllPairs R (x ∷ xs) → All (R x) xs
@@ -54,22 +48,15 @@ module _ (Answers : Packed → Recorded → Type 0) (IsDue : Contents → Packed
     text = one.text;
   }
 
-  pub ends_so : (t : Packed) (e : Ended) (old new : Contents) (before after : Option (List ℕ)) → IsDue old t → EndsAtOne Answers (λ b q. q ≡ t) e old before new after
-      → EndsAtOne Answers IsDue e old before new after
-  ends_so t BadHeader old new before after due h = h
-  ends_so t WrongRoot old new before after due h = h
-  ends_so t Stream old new before after due h = h
-  ends_so t Ledger old new before after due h = record {
+  pub tears_so : (t : Packed) (old new : Contents) (before after : Option (List ℕ)) → IsDue old t → MayTearLine Answers (λ b q. q ≡ t) old before new after
+      → MayTearLine Answers IsDue old before new after
+  tears_so t old new before after due (inl same) = inl same
+  tears_so t old new before after due (inr h) = inr (record {
     made = h.made;
     next = record { due = subst (λ (q : Packed). IsDue old q) (sym h.next.due) due; answered = h.next.answered; fit = h.next.fit };
     board = h.board;
     text = h.text;
-  }
-  ends_so t File old new before after due h = h
-  ends_so t HasPart old new before after due h = h
-  ends_so t OutInFolder old new before after due h = h
-  ends_so t Locked old new before after due h = h
-  ends_so t NoMemory old new before after due h = h
+  })
 
   -- one table more
   pub one_more_settled : (k n : ℕ) (old mid new : Contents) (before text after : Option (List ℕ)) → n ≡ suc k → SettlesMany Answers IsDue k old before mid text
@@ -88,10 +75,10 @@ module _ (Answers : Packed → Recorded → Type 0) (IsDue : Contents → Packed
   many_more_settled k (suc j) n old mid new before text after is many more =
       one_more_settled (k + j) n old more.0 new before more.1 after (omega (arith, is)) (many_more_settled k j (k + j) old mid more.0 before text more.1 refl many more.2) more.3
 
-  -- what ends it later ends it
-  pub ends_later : (e : Ended) (k : ℕ) (old mid new : Contents) (before text after : Option (List ℕ)) → SettlesMany Answers IsDue k old before mid text
-      → EndsSettling Answers IsDue e mid text new after → EndsSettling Answers IsDue e old before new after
-  ends_later e k old mid new before text after many h =
+  -- what is left later is left
+  pub leaves_later : (k : ℕ) (old mid new : Contents) (before text after : Option (List ℕ)) → SettlesMany Answers IsDue k old before mid text
+      → LeavesSettled Answers IsDue mid text new after → LeavesSettled Answers IsDue old before new after
+  leaves_later k old mid new before text after many h =
       (k + h.0, h.1, h.2, many_more_settled k h.0 (k + h.0) old mid h.1 before text h.2 refl many h.3, h.4)
 
   pub one_in_step : (old new : Contents) (before after : Option (List ℕ)) → IsBoard old → SettlesOne Answers IsDue old before new after → StaysInStep old before new after
@@ -142,26 +129,3 @@ all_below limit b tables found all is = subst (AreAll (IsOpenBelow limit b)) (sy
 pub if_ok : {T E : Type 0} {P Q : T → Type 0} (r : Result T E) → ((x : T) → P x → Q x) → IfOk r P → IfOk r Q
 if_ok (Ok x) f h = f x h
 if_ok (Err e) f h = tt
-
--- all is settled, and there is no memory to say so
-pub unsaid : (Answers : Packed → Recorded → Type 0) (HasFailed : Type 0) (old new : Contents) (left : Left) (before cut after said : Option (List ℕ)) (k : ℕ) (tally : Tally) → cut ≡ kept_part left before
-    → SettlesMany Answers ComesFirst k old cut new after → ((t : Packed) → IsOpenOn new t → ⊥) → IsTally new.root new.records tally
-    → EndsWhole Answers HasFailed NoMemory old left before after said said
-unsaid Answers HasFailed old new left before cut after said k tally is many all counted = record {
-  failed = λ same. absurd (cc);
-  how = inr (
-    inr (refl, refl),
-    (
-      settled_text k tally.holdouts,
-      record {
-        count = k;
-        board = new;
-        many = subst (λ (o : Option (List ℕ)). SettlesMany Answers ComesFirst k old o new after) is many;
-        none_open = all;
-        tally = tally;
-        counted = counted;
-        is = refl;
-      },
-    ),
-  );
-}

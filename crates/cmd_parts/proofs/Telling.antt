@@ -1,7 +1,7 @@
 -- What is told of the ledgers that were taken.
 use Rattle.std.proofs.Common.{◌≡◌, ◌⊎◌, inl, inr, ℕ, Bool, true, false, IfErr, IfOk, List, [], ◌∷◌, ◌++◌, Option, Some, None, Result, Ok, Err, sym, ◌∙◌, ap, subst, refl, append_assoc, append-nil}
 use Rattle.std.proofs.KnownBytes.{Appends-nil, Appends-trans}
-use Rattle.std.specs.Prelude.{map, codes}
+use Rattle.std.specs.Prelude.{codes}
 use Rattle.std.specs.Io.KnownBytes.{Appends}
 use Rattle.std.specs.List.{Contains}
 use Rattle.indexmap.specs.IndexSet.{insert_key}
@@ -14,45 +14,19 @@ use Rattle.ledger.specs.Tally.{AreAll}
 use Rattle.ledger.specs.declared.left.Left.{Left}
 use Rattle.parts.specs.Whole.{AddGives, Collected, IsWhole}
 use Rattle.parts.proofs.Roots.{put_last}
-use Rattle.parts.specs.declared.part_fault.PartFault.TheVariants.{AddedBefore, NotOpen}
 use Rattle.cmd_ledgers.specs.LedgerReport.{EndsLedger}
 use Rattle.cmd_options.specs.declared.ended.Ended.{Ended}
-use Rattle.cmd_options.specs.declared.ended.Ended.TheVariants.{BadHeader, WrongRoot, HasPart, OutInFolder, Stream as StreamFails, Ledger as LedgerFails, File as FileFails, Locked, NoMemory}
+use Rattle.cmd_options.specs.declared.ended.Ended.TheVariants.{BadHeader, WrongRoot}
+use Rattle.cmd_options.specs.Ends.{PrintsNothing}
 use Rattle.cmd_options.specs.Outcome.{ended_line}
 use Rattle.cmd_options.specs.declared.outcome.Outcome.{Outcome}
 use Rattle.cmd_parts.specs.Join.{TellsParts, counted_part, is_silent, left_line, line_behind}
 use Rattle.cmd_parts.proofs.JoinedParts.{sound_both, sound_first}
 use Rattle.cmd_parts.specs.Ledgers.{AreLedgers}
-use Rattle.cmd_parts.specs.Stream.{AreLedgersMet, AreMissed, EndsEarly, EndsStream, IsLoadedAs, IsLedgerMet, IsMissed, IsRefusedAs, JoinsStream, TellsStream, name_of, roots_of}
+use Rattle.cmd_parts.specs.Stream.{AreLedgersMet, AreMissed, IsLoadedAs, IsLedgerMet, IsMissed, JoinsStream, TellsStream, name_of, roots_of}
 use Rattle.cmd_parts.specs.inside.Joining.{AddsBoard, AddsLedger, AddsPart, BeginsTrunk, Joins, JoinsTo, SaysAdding, SaysMissed, SaysRoot}
 use Rattle.cmd_parts.specs.inside.Taking.{LedgersAreTaken, TakesLedgers}
 use Rattle.cmd_parts.specs.declared.joiner.Joiner.{Joiner}
-
--- why a ledger isn't loaded is why the telling may end
-pub ends_so : (text : List ℕ) (e : Ended) → EndsLedger text e → EndsEarly e
-ends_so text BadHeader h = inl (inr (inl refl, (text, h)))
-ends_so text WrongRoot h = inl (inr (inr refl, (text, h)))
-ends_so text HasPart h = absurd h
-ends_so text OutInFolder h = absurd h
-ends_so text StreamFails h = inr refl
-ends_so text LedgerFails h = absurd h
-ends_so text FileFails h = absurd h
-ends_so text Locked h = absurd h
-ends_so text NoMemory h = inl (inl refl)
-
-pub ends_taking : (e : Ended) → ((e ≡ NoMemory) ⊎ EndsEarly e) ⊎ (e ≡ StreamFails) → EndsEarly e
-ends_taking e (inl (inl memory)) = inl (inl memory)
-ends_taking e (inl (inr early)) = early
-ends_taking e (inr stream) = inr stream
-
-pub ends_said : (e : Ended) → (e ≡ NoMemory) ⊎ (e ≡ StreamFails) → EndsEarly e
-ends_said e (inl memory) = inl (inl memory)
-ends_said e (inr stream) = inr stream
-
--- what is told behind it, or why it isn't
-pub ends_untold : (e : Ended) (said new_said : Option (List ℕ)) → ((e ≡ NoMemory) × (new_said ≡ said)) ⊎ (e ≡ StreamFails) → EndsStream e said new_said
-ends_untold e said new_said (inl (memory, same)) = (inl (inl memory), inl same)
-ends_untold e said new_said (inr stream) = (inr stream, inr stream)
 
 loud : (name what : List ℕ) → is_silent (line_behind name what) ≡ false
 loud [] what = refl
@@ -314,10 +288,10 @@ refused_so number text e old came r faults new_faults name either ends is h =
 
 -- what is told is told, or why it isn't
 pub joins_so : (IsText : Packed → List Recorded → Left → List ℕ → Type 0) (r : Result Outcome Ended) (read new_read said new_said faults new_faults : Option (List ℕ))
-    → IfOk r (TellsStream IsText read new_read said new_said faults new_faults) → IfErr r (λ e. ((e ≡ NoMemory) × (new_said ≡ said)) ⊎ (e ≡ StreamFails))
+    → IfOk r (TellsStream IsText read new_read said new_said faults new_faults) → IfErr r (λ e. PrintsNothing e said new_said)
     → JoinsStream IsText read new_read said new_said faults new_faults r
-joins_so IsText (Ok o) read new_read said new_said faults new_faults tells ends = tells
-joins_so IsText (Err e) read new_read said new_said faults new_faults tells ends = ends_untold e said new_said ends
+joins_so IsText (Ok o) read new_read said new_said faults new_faults tells silent = tells
+joins_so IsText (Err e) read new_read said new_said faults new_faults tells silent = silent
 
 pub not_both : (b : Bool) → b ≡ true → b ≡ false → ⊥
 not_both b holds fails = let clash : true ≡ false = sym holds ∙ fails in absurd (cc)

@@ -1,12 +1,12 @@
 -- A trunk's ledger that is begun: what is kept of it, or a header alone, is the ledger of its board.
-use Rattle.std.proofs.Common.{◌≡◌, ℕ, zero, suc, ◌+◌, ◌≤◌, cond, List, [], ◌∷◌, ◌++◌, length, take, Option, Some, None, IfSome, IfOk, IfErr, Bool, false, Result, Ok, Err, inl, inr, refl, sym, ap, ◌∙◌, subst, append-nil, length-append, arith}
+use Rattle.std.proofs.Common.{◌≡◌, ℕ, zero, suc, ◌+◌, ◌≤◌, cond, List, [], ◌∷◌, ◌++◌, length, take, Option, Some, None, IfSome, IfOk, Result, Ok, Err, inl, inr, refl, sym, ap, ◌∙◌, subst, append-nil, length-append, arith}
 use Rattle.std.proofs.lemmas.Bool.{ne_eqb}
 use Rattle.std.proofs.lemmas.List.Elements.{All-contains}
 use Rattle.machine_text.specs.Limits.{state_limit}
 use Rattle.machine_text.specs.Packed.{Packed, empty_table}
 use Rattle.law_tree.proofs.EmptyTable.{empty_table_in_order, empty_is_table}
 use Rattle.cert.specs.Claim.{Recorded}
-use Rattle.std.specs.Prelude.{All, Contains, OnOk}
+use Rattle.std.specs.Prelude.{All, OnOk}
 use Rattle.ledger.specs.Contents.{Contents, IsOpenOn}
 use Rattle.ledger.specs.Tally.{AreAll}
 use Rattle.text.specs.Lines.{joined}
@@ -14,16 +14,13 @@ use Rattle.ledger.specs.Versions.{header_words}
 use Rattle.ledger.specs.declared.format.Format.{Format}
 use Rattle.ledger.specs.declared.format.Format.TheVariants.{Two}
 use Rattle.ledger.specs.LedgerText.{ledger_text, LoadGives, ReadsAs, ReadsAsNone, ReadsIn, IsLedgerOf}
-use Rattle.ledger.specs.declared.faults.LoadFault.{LoadFault}
 use Rattle.ledger.specs.declared.left.Left.{Left}
 use Rattle.ledger.specs.declared.left.Left.TheVariants.{Nothing, From}
 use Rattle.ledger.proofs.Growing.{cut_to_kept}
 use Rattle.ledger.proofs.Written.{whole_ledger}
 use Rattle.ledger.proofs.OpenStart.{board_starts}
-use Rattle.cmd_ledgers.specs.Faults.{ended_by_load}
 use Rattle.cmd_ledgers.specs.Reading.{AreFirstBytes}
-use Rattle.cmd_options.specs.declared.ended.Ended.{Ended}
-use Rattle.cmd_parts.specs.Split.{EndsGrowing, EndsLooking, EndsTrunk, GrowsTrunk, IsNoTrunk, StopsAt, begun_header, begun_trunk, due_header, kept_size}
+use Rattle.cmd_parts.specs.Split.{GrowsTrunk, LeavesGrown, LeavesTrunk, begun_header, begun_trunk, due_header, kept_size}
 use Rattle.cmd_parts.specs.Settling.{IsOpenBelow, SettlesMany, filled_count}
 
 header_alone : (root : Packed) → ledger_text root [] ≡ begun_header root
@@ -124,36 +121,9 @@ pub none_seen : {T E : Type 0} (IsSeen IsDue : Packed → Type 0) (due : List Pa
 none_seen IsSeen IsDue due (Ok x) all h = λ t is. All-contains IsSeen due t h ((all.exact t).1 is)
 none_seen IsSeen IsDue due (Err e) all h = tt
 
--- it ends at one of the tables that are due
-pub one_stops : {T : Type 0} (Sees : Packed → Result Bool Ended → Type 0) (limit : ℕ) (b : Contents) (due : List Packed) (r : Result T Ended) → AreAll (IsOpenBelow limit b) due
-    → IfErr r (λ e. (t : Packed) × Contains due t × StopsAt Sees t e) → IfErr r (EndsLooking Sees limit b)
-one_stops Sees limit b due (Ok x) all h = tt
-one_stops Sees limit b due (Err e) all (t, at, stops) = inr (t, (all.exact t).0 at, stops)
-
--- the text that was read is no ledger of the tree
-pub if_no_tree : {T : Type 0} (has : Option (List ℕ)) (limit n : ℕ) (text : List ℕ) (root : Packed) (r : Result T Ended) → AreFirstBytes has limit text → root ≡ empty_table n
-    → IfErr r (λ e. (fault : LoadFault) × LoadGives root text (Err fault) × (e ≡ ended_by_load fault)) → IfErr r (IsNoTrunk n has limit)
-if_no_tree has limit n text root (Ok x) first is h = tt
-if_no_tree has limit n text root (Err e) first is (fault, gives, ended) = inr (text, fault, first, subst (λ (p : Packed). LoadGives p text (Err fault)) is gives, ended)
-
-module _ (Sees : Packed → Result Bool Ended → Type 0) (Answers : Packed → Recorded → Type 0) (HasFailed : Type 0) (n limit : ℕ) (e : Ended) (has : Option (List ℕ)) (size : ℕ) (before after : Option (List ℕ)) (loaded : Contents) (left : Left) (bytes : ℕ) where
-  -- a trunk that was loaded isn't grown: the looking for parts ended
-  pub looking_ends : ((text : List ℕ) × AreFirstBytes has size text × (bytes ≡ length text) × LoadGives (empty_table n) text (Ok (loaded, left)))
-      → EndsLooking Sees limit loaded e → EndsTrunk Sees Answers HasFailed n limit e has size before before
-  looking_ends (text, first, is, loads) looks = inr (text, loaded, left, first, loads, inl (looks, refl))
-
-  -- or the growing did
-  pub growing_ends : ((text : List ℕ) × AreFirstBytes has size text × (bytes ≡ length text) × LoadGives (empty_table n) text (Ok (loaded, left)))
-      → ((t : Packed) → IsOpenBelow limit loaded t → Sees t (Ok false)) → EndsGrowing Answers HasFailed limit e loaded bytes left before after
-      → EndsTrunk Sees Answers HasFailed n limit e has size before after
-  growing_ends (text, first, is, loads) unsplit ends = inr (
-    text,
-    loaded,
-    left,
-    first,
-    loads,
-    inr (
-      unsplit,
-      subst (λ (m : ℕ). EndsGrowing Answers HasFailed limit e loaded m left before after) is ends,
-    ),
-  )
+-- or what is left of it
+pub leaves_so : (HasNoPart : Packed → Type 0) (Answers : Packed → Recorded → Type 0) (n limit : ℕ) (has : Option (List ℕ)) (size : ℕ) (before after : Option (List ℕ)) (loaded : Contents) (left : Left) (bytes : ℕ)
+    → ((text : List ℕ) × AreFirstBytes has size text × (bytes ≡ length text) × LoadGives (empty_table n) text (Ok (loaded, left)))
+    → ((t : Packed) → IsOpenBelow limit loaded t → HasNoPart t) → LeavesGrown Answers limit loaded bytes left before after → LeavesTrunk HasNoPart Answers n limit has size before after
+leaves_so HasNoPart Answers n limit has size before after loaded left bytes (text, first, is, loads) unsplit leaves =
+    inr (text, loaded, left, first, loads, unsplit, subst (λ (m : ℕ). LeavesGrown Answers limit loaded m left before after) is leaves)

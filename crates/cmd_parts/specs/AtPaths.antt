@@ -11,12 +11,12 @@ use Rattle.ledger.specs.declared.tally.Tally.{Tally}
 use Rattle.cmd_options.specs.declared.outcome.Outcome.{Outcome}
 use Rattle.cmd_options.specs.declared.outcome.Outcome.TheVariants.{Accepted}
 use Rattle.cmd_options.specs.declared.ended.Ended.{Ended}
-use Rattle.cmd_options.specs.declared.ended.Ended.TheVariants.{Stream}
 use Rattle.files.specs.Paths.{Shelf, Known, SameFile, Unknown, Missing, Bytes, IsBlank, IsKept, IsKeptBut, IsLedgerAt, IsPut}
-use Rattle.cmd_ledgers.specs.AtPath.{FailsWriting}
-use Rattle.cmd_ledgers.specs.GoingOn.{EndsOpening, FailsReading, GoesOnAt}
-use Rattle.cmd_parts.specs.Join.{EndsTelling, Findings, TellsAll}
-use Rattle.cmd_parts.specs.Settle.{EndsLedgerAt, SettlesLedger}
+use Rattle.cmd_ledgers.specs.GoingOn.{GoesOnAt, LeavesAt}
+use Rattle.cmd_options.specs.Ends.{PrintsNothing}
+use Rattle.cmd_parts.specs.Join.{Findings, TellsAll, WarnsFirst}
+use Rattle.cmd_parts.specs.Settle.{SettlesLedger}
+use Rattle.cmd_parts.specs.Settling.{ComesFirst, LeavesSettled}
 use Rattle.cmd_parts.specs.Split.{GrowsTrunk, begun_part, path_within, split_text}
 
 -- what is found where this stands
@@ -37,7 +37,7 @@ IsSizeAt (Bytes bytes) size = size ≡ length bytes
 -- whether something is seen there
 abbrev pub SeesAt : Known → Result Bool Ended → Type 0
 SeesAt known (Ok seen) = (size : ℕ) × IsSizeAt known size × (seen ≡ nat_lt 0 size)
-SeesAt known (Err e) = FailsReading e
+SeesAt known (Err e) = ⊤
 
 -- the part of a root is begun at a path, and nothing else has changed
 pub record IsPartBegun (tells : SameFile) (path : List ℕ) (root : Packed) (old new : Shelf) : Type 0 where
@@ -57,8 +57,7 @@ AreBegunAt tells folder [] old new = IsKept old new
 AreBegunAt tells folder (root ∷ roots) old new = (middle : Shelf) × IsBegunAt tells folder root old middle
     × AreBegunAt tells folder roots middle new
 
--- the ledger at a path is locked, and settled where it stands, which is told. Where that ends before it is read,
--- nothing has changed at any path and nothing is told; else it ended as that of its board
+-- the ledger at a path is locked, and settled where it stands, which is told
 abbrev pub SettlesAt : {K : Type 0} → (Packed → Recorded → Type 0) → (Result (Option K) Ended → Type 0) → SameFile
     → List ℕ → Shelf → Shelf
     → Option (List ℕ) → Option (List ℕ) → Result (Unit {0}) Ended → Type 0
@@ -66,9 +65,7 @@ SettlesAt {K} Answers Locks tells path old new said new_said (Ok done) =
     (lock : K) × Locks (Ok (Some lock)) × GoesOnAt
     (λ has size before after. SettlesLedger Answers has size before after said new_said) tells path old new
 SettlesAt {K} Answers Locks tells path old new said new_said (Err e) =
-    (EndsOpening Locks e × IsKept old new × (new_said ≡ said))
-    ⊎ GoesOnAt (λ has size before after. EndsLedgerAt Answers ⊤ e has size before after said new_said) tells path old
-    new
+    LeavesAt (LeavesSettled Answers ComesFirst) tells path old new said new_said e
 
 -- there is a file at a path: where none was, one that holds nothing
 abbrev pub IsCreated : SameFile → List ℕ → Shelf → Shelf → Type 0
@@ -101,15 +98,14 @@ pub record SplitsTree (Answers : Packed → Recorded → Type 0) (tells : SameFi
   pub counted : IsTally trunk.root trunk.records tally
   pub says : Appends said new_said (split_text tally)
 
--- it is accepted only where the trunk was locked and the tree is split so; where that ends early nothing is told,
--- unless the stream failed
+-- it is accepted only where the trunk was locked and the tree is split so
 abbrev pub SplitsAt : {K : Type 0} → (Packed → Recorded → Type 0) → (Result (Option K) Ended → Type 0) → SameFile → ℕ
     → ℕ → List ℕ → Shelf → Shelf
     → Option (List ℕ) → Option (List ℕ) → Result Outcome Ended → Type 0
 SplitsAt {K} Answers Locks tells n limit folder old new said new_said (Ok o) =
     (o ≡ Accepted) × ((lock : K) × Locks (Ok (Some lock)))
     × SplitsTree Answers tells n limit folder old new said new_said
-SplitsAt {K} Answers Locks tells n limit folder old new said new_said (Err e) = (new_said ≡ said) ⊎ (e ≡ Stream)
+SplitsAt {K} Answers Locks tells n limit folder old new said new_said (Err e) = PrintsNothing e said new_said
 
 -- a trunk and its parts are told of, where they stand; nothing changes at any path
 abbrev pub JoinsAt : (Packed → List Recorded → Left → List ℕ → Type 0) → List ℕ → Shelf → Shelf → Option (List ℕ)
@@ -117,22 +113,11 @@ abbrev pub JoinsAt : (Packed → List Recorded → Left → List ℕ → Type 0)
     → Result Outcome Ended → Type 0
 JoinsAt IsText folder old new said new_said faults new_faults (Ok o) =
     TellsAll IsText (finds_at old) folder None None said new_said faults new_faults o × IsKept old new
-JoinsAt IsText folder old new said new_said faults new_faults (Err e) = EndsTelling (finds_at old) folder e said
-    new_said faults new_faults × IsKept old new
+JoinsAt IsText folder old new said new_said faults new_faults (Err e) = PrintsNothing e said new_said
+    × WarnsFirst (finds_at old) folder faults new_faults e × IsKept old new
 
--- why the one ledger of a trunk and its parts isn't put at a path: that isn't locked, or nothing can be made, and
--- nothing is told; or the telling ended; or all is told, but the ledger can't be put
-abbrev pub EndsCollecting : {K : Type 0} → (Packed → List Recorded → Left → List ℕ → Type 0)
-    → (Result (Option K) Ended → Type 0) → Findings → List ℕ
-    → Option (List ℕ) → Option (List ℕ) → Option (List ℕ) → Option (List ℕ) → Ended → Type 0
-EndsCollecting {K} IsText Locks Finds folder said new_said faults new_faults e =
-    (EndsOpening Locks e × (new_said ≡ said) × (new_faults ≡ faults))
-    ⊎ (EndsTelling Finds folder e said new_said faults new_faults
-    ⊎ (FailsWriting e × ((begun text : Option (List ℕ)) × (o : Outcome)
-    × TellsAll IsText Finds folder begun text said new_said faults new_faults o)))
-
--- they are told of, and the one ledger of all comes to stand at a path, which is locked; where that ends early nothing
--- changes at any path
+-- they are told of, and the one ledger of all comes to stand at a path, which is locked. Where that ends early nothing
+-- changes at any path; the telling ended, or all is told, but the ledger isn't put
 abbrev pub CollectsAt : {K : Type 0} → (Packed → List Recorded → Left → List ℕ → Type 0)
     → (Result (Option K) Ended → Type 0) → SameFile → List ℕ → List ℕ → Shelf → Shelf
     → Option (List ℕ) → Option (List ℕ) → Option (List ℕ) → Option (List ℕ) → Result Outcome Ended → Type 0
@@ -140,4 +125,6 @@ CollectsAt {K} IsText Locks tells folder out old new said new_said faults new_fa
     ((lock : K) × Locks (Ok (Some lock))) × ((begun text : Option (List ℕ)) × IsBlank begun
     × TellsAll IsText (finds_at old) folder begun text said new_said faults new_faults o × IsPut tells out text old new)
 CollectsAt {K} IsText Locks tells folder out old new said new_said faults new_faults (Err e) =
-    EndsCollecting IsText Locks (finds_at old) folder said new_said faults new_faults e × IsKept old new
+    ((PrintsNothing e said new_said × WarnsFirst (finds_at old) folder faults new_faults e)
+    ⊎ ((begun text : Option (List ℕ)) × (o : Outcome)
+    × TellsAll IsText (finds_at old) folder begun text said new_said faults new_faults o)) × IsKept old new

@@ -1,5 +1,5 @@
 -- A trunk and its parts that are gathered, before anything is printed of them.
-use Rattle.std.specs.Prelude.{◌≡◌, ◌⊎◌, ℕ, Bool, List, Option}
+use Rattle.std.specs.Prelude.{◌≡◌, ℕ, Bool, List, Option}
 use Rattle.std.specs.Io.KnownBytes.{Appends}
 use Rattle.cert.specs.Claim.{Recorded}
 use Rattle.ledger.specs.Contents.{Contents}
@@ -7,9 +7,7 @@ use Rattle.ledger.specs.LedgerText.{ledger_text}
 use Rattle.wire.specs.Device.{grown}
 use Rattle.parts.specs.Parts.{joined_with}
 use Rattle.parts.specs.Whole.{Collected, IsWhole}
-use Rattle.cmd_options.specs.declared.ended.Ended.{Ended}
-use Rattle.cmd_options.specs.declared.ended.Ended.TheVariants.{Stream}
-use Rattle.cmd_parts.specs.Join.{EndsJoining, Findings, HoldsTree, SaysFirst, is_silent}
+use Rattle.cmd_parts.specs.Join.{Findings, HoldsTree, is_silent}
 
 -- it is the whole of what a folder holds, the one ledger of all stands behind what stood in its place, and all are counted
 pub record IsGathered (Finds : Findings) (folder : List ℕ) (whole : Collected) (is_sound : Bool)
@@ -22,9 +20,3 @@ pub record IsGathered (Finds : Findings) (folder : List ℕ) (whole : Collected)
   pub says : Appends faults new_faults lines
   pub writes : after ≡ grown before (ledger_text whole.trunk.root (joined_with whole.trunk.records parts))
   pub counts : Counted (joined_with whole.trunk.records parts)
-
--- why what a folder holds isn't gathered, and what is said before
-pub record EndsGathering (Finds : Findings) (folder : List ℕ) (e : Ended)
-    (faults new_faults : Option (List ℕ)) : Type 0 where
-  pub why : EndsJoining Finds folder e
-  pub warns : ((new_faults ≡ faults) ⊎ SaysFirst Finds folder faults new_faults) ⊎ (e ≡ Stream)

@@ -14,13 +14,13 @@ use Rattle.ledger.specs.declared.left.Left.{Left}
 use Rattle.ledger.specs.declared.left.Left.TheVariants.{Nothing, From}
 use Rattle.ledger.specs.declared.status.Status.{Status}
 use Rattle.wire.specs.Device.{grown}
-use Rattle.cmd_ledgers.specs.AtPath.{FailsWriting}
 use Rattle.cmd_ledgers.specs.LedgerReport.{outcome_by}
 use Rattle.cmd_ledgers.specs.Reading.{EndsReading, IsLoadedFrom}
 use Rattle.cmd_options.specs.declared.stopped.Stopped.TheVariants.{Ended as EndedBy}
+use Rattle.cmd_options.specs.Ends.{PrintsNothing}
 use Rattle.cmd_options.specs.Outcome.{ended_line}
 use Rattle.cmd_options.specs.declared.ended.Ended.{Ended}
-use Rattle.cmd_options.specs.declared.ended.Ended.TheVariants.{BadHeader, WrongRoot, Stream, File, OutInFolder, NoMemory}
+use Rattle.cmd_options.specs.declared.ended.Ended.TheVariants.{BadHeader, WrongRoot}
 use Rattle.cmd_options.specs.declared.outcome.Outcome.{Outcome}
 use Rattle.cmd_options.specs.declared.outcome.Outcome.TheVariants.{Refused}
 use Rattle.parts.specs.Parts.{AreParts, joined_with}
@@ -128,24 +128,6 @@ pub record TellsAll (IsText : Packed → List Recorded → Left → List ℕ →
   pub warns : Appends faults new_faults lines
   pub writes : after ≡ grown before (ledger_text trunk.root (joined_with trunk.records parts))
 
--- there is no memory, or a file can't be read
-abbrev pub FailsFile : Ended → Type 0
-FailsFile e = (e ≡ NoMemory) ⊎ (e ≡ File)
-
--- what may end the telling at any part: that; or the one ledger fails, or a stream
-abbrev pub FailsAny : Ended → Type 0
-FailsAny e = (FailsFile e ⊎ FailsWriting e) ⊎ (e ≡ Stream)
-
--- the trunk's ledger has no root, or one that isn't in order
-abbrev pub HasNoTrunk : Findings → List ℕ → Ended → Type 0
-HasNoTrunk Finds path e = (has : Option (List ℕ)) × (size : ℕ) × Finds path (Some (has, size))
-    × ((e ≡ BadHeader) ⊎ (e ≡ WrongRoot)) × EndsReading has size (EndedBy e)
-
--- why a trunk and its parts aren't told of: something fails, the trunk has no root in order, or the one ledger stands
--- among them
-abbrev pub EndsJoining : Findings → List ℕ → Ended → Type 0
-EndsJoining Finds folder e = FailsAny e ⊎ (HasNoTrunk Finds (path_within folder (codes "trunk")) e ⊎ (e ≡ OutInFolder))
-
 -- what is wrong with the trunk that a folder holds and with the first of its parts is said
 pub record SaysFirst (Finds : Findings) (folder : List ℕ) (faults new_faults : Option (List ℕ)) : Type 0 where
   pub trunk : Contents
@@ -159,10 +141,8 @@ pub record SaysFirst (Finds : Findings) (folder : List ℕ) (faults new_faults :
   pub are_met : AreMet Finds folder met parts said
   pub says : Appends faults new_faults (left_line (path_within folder (codes "trunk")) left ++ said)
 
--- the telling ends early: no report is written, and whole lines are said, those of the trunk and of the first parts;
--- unless a stream failed
-pub record EndsTelling (Finds : Findings) (folder : List ℕ) (e : Ended)
-    (said new_said faults new_faults : Option (List ℕ)) : Type 0 where
-  pub why : EndsJoining Finds folder e
-  pub untold : (new_said ≡ said) ⊎ (e ≡ Stream)
-  pub warns : ((new_faults ≡ faults) ⊎ SaysFirst Finds folder faults new_faults) ⊎ (e ≡ Stream)
+-- where the telling ended early, nothing is said, or whole lines, those of the trunk and of the first parts; unless a
+-- stream failed
+abbrev pub WarnsFirst : Findings → List ℕ → Option (List ℕ) → Option (List ℕ) → Ended → Type 0
+WarnsFirst Finds folder faults new_faults e =
+    PrintsNothing e faults new_faults ⊎ SaysFirst Finds folder faults new_faults

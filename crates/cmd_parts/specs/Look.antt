@@ -12,11 +12,10 @@ use Rattle.ledger.specs.Records.{claim_in}
 use Rattle.ledger.specs.Tally.{AreAll}
 use Rattle.ledger.specs.declared.left.Left.{Left}
 use Rattle.parts.specs.Parts.{joined_with}
-use Rattle.cmd_options.specs.declared.ended.Ended.{Ended}
 use Rattle.cmd_options.specs.declared.outcome.Outcome.{Outcome}
 use Rattle.cmd_options.specs.declared.outcome.Outcome.TheVariants.{Accepted}
 use Rattle.cmd_lines.specs.Stream.{AnswersStream}
-use Rattle.cmd_parts.specs.Join.{EndsJoining, Findings, HasNoTrunk, HoldsTree, IsMet, IsReadAt}
+use Rattle.cmd_parts.specs.Join.{Findings, HoldsTree, IsMet, IsReadAt}
 use Rattle.cmd_parts.specs.Split.{path_within}
 use Rattle.cmd_parts.specs.Tables.{ComesOf, ComesOfNone, SaysByBoard, SaysOfLine, SaysUnknown}
 
@@ -91,7 +90,3 @@ abbrev pub PrintsAt : Findings → List ℕ → Option (List ℕ) → Option (Li
 PrintsAt Finds path held new_held faults new_faults o =
     (o ≡ Accepted) × ((PrintsOfLedger Finds path held new_held × (new_faults ≡ faults))
     ⊎ PrintsOfFolder Finds path held new_held faults new_faults)
-
--- what may end it: a ledger without a root in order, or what ends the joining of a folder
-abbrev pub EndsLookUp : Findings → List ℕ → Ended → Type 0
-EndsLookUp Finds path e = HasNoTrunk Finds path e ⊎ EndsJoining Finds path e

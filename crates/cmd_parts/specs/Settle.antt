@@ -1,5 +1,5 @@
 -- A ledger that is settled: loaded, cut to what is kept of it, and gone on with until no table of its board is open.
-use Rattle.std.specs.Prelude.{◌≡◌, ◌⊎◌, ℕ, List, [], ◌∷◌, ◌++◌, Option, codes, decimal}
+use Rattle.std.specs.Prelude.{◌≡◌, ℕ, List, [], ◌∷◌, ◌++◌, Option, codes, decimal}
 use Rattle.std.specs.Io.KnownBytes.{Appends}
 use Rattle.machine_text.specs.Packed.{Packed}
 use Rattle.cert.specs.Claim.{Recorded}
@@ -7,11 +7,9 @@ use Rattle.ledger.specs.Contents.{Contents, IsOpenOn}
 use Rattle.ledger.specs.Tally.{IsTally}
 use Rattle.ledger.specs.declared.left.Left.{Left}
 use Rattle.ledger.specs.declared.tally.Tally.{Tally}
-use Rattle.cmd_ledgers.specs.GoingOn.{EndsLoading, FailsCut, kept_part}
+use Rattle.cmd_ledgers.specs.GoingOn.{kept_part}
 use Rattle.cmd_ledgers.specs.Reading.{IsLoadedFrom}
-use Rattle.cmd_options.specs.declared.ended.Ended.{Ended}
-use Rattle.cmd_options.specs.declared.ended.Ended.TheVariants.{Ledger, NoMemory, Stream}
-use Rattle.cmd_parts.specs.Settling.{ComesFirst, EndsSettling, SettlesMany}
+use Rattle.cmd_parts.specs.Settling.{ComesFirst, SettlesMany}
 
 -- the line that says how many tables were settled, and how many holdouts there are
 abbrev pub settled_text : ℕ → ℕ → List ℕ
@@ -37,28 +35,3 @@ pub record SettlesLedger (Answers : Packed → Recorded → Type 0) (has : Optio
   pub loads : IsLoadedFrom has limit loaded left
   pub settles : SettlesWhole Answers loaded left before after told
   pub says : Appends said new_said told
-
--- all is settled, but to say so a stream failed, or memory was refused before anything was said
-abbrev pub EndsSaying : (Packed → Recorded → Type 0) → Ended → Contents → Left → Option (List ℕ) → Option (List ℕ)
-    → Option (List ℕ) → Option (List ℕ) → Type 0
-EndsSaying Answers e old left before after said new_said =
-    ((e ≡ Stream) ⊎ ((e ≡ NoMemory) × (new_said ≡ said)))
-    × ((told : List ℕ) × SettlesWhole Answers old left before after told)
-
--- why a board and its ledger aren't settled whole: the cut, the settling or the saying ended early; where that is for the
--- ledger, it has failed
-pub record EndsWhole (Answers : Packed → Recorded → Type 0) (HasFailed : Type 0) (e : Ended) (old : Contents)
-    (left : Left) (before after said new_said : Option (List ℕ)) : Type 0 where
-  pub failed : e ≡ Ledger → HasFailed
-  pub how :
-      ((new_said ≡ said) × (FailsCut left e before after
-      ⊎ ((new : Contents) × EndsSettling Answers ComesFirst e old (kept_part left before) new after)))
-      ⊎ EndsSaying Answers e old left before after said new_said
-
--- why a ledger that a reader has in its first bytes isn't settled whole: it isn't loaded, and nothing is done; or that of its board
-abbrev pub EndsLedgerAt : (Packed → Recorded → Type 0) → Type 0 → Ended → Option (List ℕ) → ℕ → Option (List ℕ)
-    → Option (List ℕ) → Option (List ℕ) → Option (List ℕ) → Type 0
-EndsLedgerAt Answers HasFailed e has limit before after said new_said =
-    (EndsLoading has limit e × (after ≡ before) × (new_said ≡ said))
-    ⊎ ((loaded : Contents) × (left : Left) × IsLoadedFrom has limit loaded left
-    × EndsWhole Answers HasFailed e loaded left before after said new_said)

@@ -11,8 +11,6 @@ use Rattle.ledger.specs.Contents.{Contents, IsOpenOn}
 use Rattle.ledger.specs.Held.{IsFit}
 use Rattle.wire.specs.Device.{IsBegun}
 use Rattle.cmd_ledgers.specs.Retry.{gained, with_line}
-use Rattle.cmd_options.specs.declared.ended.Ended.{Ended}
-use Rattle.cmd_options.specs.declared.ended.Ended.TheVariants.{BadHeader, WrongRoot, Stream, Ledger, File, HasPart, OutInFolder, Locked, NoMemory}
 
 -- the open table whose text comes first
 abbrev pub ComesFirst : Contents → Packed → Type 0
@@ -62,22 +60,15 @@ pub record TearsLine (Answers : Packed → Recorded → Type 0) (IsDue : Content
   pub board : new ≡ with_last old made
   pub text : IsBegun before (gained old.format made) after
 
--- what ends it for one table: memory was refused, and nothing changed; or the ledger failed
-abbrev pub EndsAtOne : (Packed → Recorded → Type 0) → (Contents → Packed → Type 0) → Ended → Contents → Option (List ℕ)
+-- what an early end leaves at one table: nothing has changed, or its line is torn
+abbrev pub MayTearLine : (Packed → Recorded → Type 0) → (Contents → Packed → Type 0) → Contents → Option (List ℕ)
     → Contents → Option (List ℕ) → Type 0
-EndsAtOne Answers IsDue BadHeader old before new after = ⊥
-EndsAtOne Answers IsDue WrongRoot old before new after = ⊥
-EndsAtOne Answers IsDue Stream old before new after = ⊥
-EndsAtOne Answers IsDue Ledger old before new after = TearsLine Answers IsDue old before new after
-EndsAtOne Answers IsDue File old before new after = ⊥
-EndsAtOne Answers IsDue HasPart old before new after = ⊥
-EndsAtOne Answers IsDue OutInFolder old before new after = ⊥
-EndsAtOne Answers IsDue Locked old before new after = ⊥
-EndsAtOne Answers IsDue NoMemory old before new after = (new ≡ old) × (after ≡ before)
+MayTearLine Answers IsDue old before new after =
+    ((new ≡ old) × (after ≡ before)) ⊎ TearsLine Answers IsDue old before new after
 
--- what ends it early: the tables that were settled before stay so
-abbrev pub EndsSettling : (Packed → Recorded → Type 0) → (Contents → Packed → Type 0) → Ended → Contents
-    → Option (List ℕ) → Contents → Option (List ℕ) → Type 0
-EndsSettling Answers IsDue e old before new after =
+-- and of all: the tables that were settled before stay so
+abbrev pub LeavesSettled : (Packed → Recorded → Type 0) → (Contents → Packed → Type 0) → Contents → Option (List ℕ)
+    → Contents → Option (List ℕ) → Type 0
+LeavesSettled Answers IsDue old before new after =
     (k : ℕ) × (mid : Contents) × (text : Option (List ℕ)) × SettlesMany Answers IsDue k old before mid text
-    × EndsAtOne Answers IsDue e mid text new after
+    × MayTearLine Answers IsDue mid text new after

@@ -1,5 +1,5 @@
 -- A tree that is split: a trunk, whose tables of few entries are settled, and a ledger for each table that it leaves open.
-use Rattle.std.specs.Prelude.{◌≡◌, ◌⊎◌, ℕ, ◌-◌, ◌≤◌, Bool, true, false, nat_lt, ◌==◌, if◌then◌else◌, List, [], ◌∷◌, ◌++◌, length, Option, Some, None, IfSome, Result, Ok, Err, codes, decimal}
+use Rattle.std.specs.Prelude.{◌≡◌, ◌⊎◌, ℕ, ◌-◌, ◌≤◌, nat_lt, ◌==◌, if◌then◌else◌, List, [], ◌∷◌, ◌++◌, length, Option, Some, None, IfSome, Ok, codes, decimal}
 use Rattle.machine_text.specs.Packed.{Packed, empty_table}
 use Rattle.machine_text.specs.Text.{text_of}
 use Rattle.cert.specs.Claim.{Recorded}
@@ -7,17 +7,13 @@ use Rattle.ledger.specs.Contents.{Contents, IsOpenOn}
 use Rattle.ledger.specs.LedgerText.{IsLedgerOf, LoadGives}
 use Rattle.ledger.specs.Versions.{header_words}
 use Rattle.ledger.specs.declared.format.Format.TheVariants.{Two}
-use Rattle.ledger.specs.declared.faults.LoadFault.{LoadFault}
 use Rattle.ledger.specs.declared.left.Left.{Left}
 use Rattle.ledger.specs.declared.left.Left.TheVariants.{Nothing, From}
 use Rattle.ledger.specs.declared.tally.Tally.{Tally}
 use Rattle.wire.specs.Device.{IsBegun, grown}
-use Rattle.cmd_ledgers.specs.Faults.{ended_by_load}
 use Rattle.cmd_ledgers.specs.Reading.{AreFirstBytes}
-use Rattle.cmd_options.specs.declared.ended.Ended.{Ended}
-use Rattle.cmd_options.specs.declared.ended.Ended.TheVariants.{HasPart, Ledger, NoMemory}
-use Rattle.cmd_ledgers.specs.GoingOn.{FailsReading, kept_part}
-use Rattle.cmd_parts.specs.Settling.{EndsSettling, IsOpenBelow, SettlesMany, filled_count}
+use Rattle.cmd_ledgers.specs.GoingOn.{kept_part}
+use Rattle.cmd_parts.specs.Settling.{IsOpenBelow, LeavesSettled, SettlesMany, filled_count}
 
 -- the path of a ledger in a folder
 abbrev pub path_within : List ℕ → List ℕ → List ℕ
@@ -65,46 +61,24 @@ pub record GrowsTrunk (HasNoPart : Packed → Type 0) (Answers : Packed → Reco
   -- where that was the whole ledger, it is the ledger of the trunk
   pub step : before ≡ Some text → IfSome after (IsLedgerOf new)
 
--- why the tree of n states has no trunk in the first bytes of a reader: that failed, or they are not its ledger
-abbrev pub IsNoTrunk : ℕ → Option (List ℕ) → ℕ → Ended → Type 0
-IsNoTrunk n has size e =
-    FailsReading e ⊎ ((text : List ℕ) × (fault : LoadFault) × AreFirstBytes has size text
-    × LoadGives (empty_table n) text (Err fault) × (e ≡ ended_by_load fault))
+-- what an early end leaves of a trunk's ledger of so many bytes that was loaded: it is as it was; or behind what was kept
+-- of it stands a beginning of the header that is due, or what was settled behind that
+abbrev pub LeavesGrown : (Packed → Recorded → Type 0) → ℕ → Contents → ℕ → Left → Option (List ℕ) → Option (List ℕ)
+    → Type 0
+LeavesGrown Answers limit loaded bytes left before after =
+    ((after ≡ before) ⊎ IsBegun (kept_part left before) (due_header loaded.root (kept_size bytes left)) after)
+    ⊎ ((new : Contents)
+    × LeavesSettled Answers (IsOpenBelow limit) loaded (begun_trunk loaded.root bytes left before) new after)
 
--- it ends at a table: its part was seen, or it ended so that nothing was seen
-abbrev pub StopsAt : (Packed → Result Bool Ended → Type 0) → Packed → Ended → Type 0
-StopsAt Sees t e = ((e ≡ HasPart) × Sees t (Ok true)) ⊎ Sees t (Err e)
-
--- why the looking for parts ends: memory was refused, or by one of the tables to be settled
-abbrev pub EndsLooking : (Packed → Result Bool Ended → Type 0) → ℕ → Contents → Ended → Type 0
-EndsLooking Sees limit loaded e = (e ≡ NoMemory) ⊎ ((t : Packed) × IsOpenBelow limit loaded t × StopsAt Sees t e)
-
--- why a trunk's ledger isn't begun: memory was refused, and nothing is done; or it failed as it was cut, or under its header
-abbrev pub EndsBeginning : Type 0 → Ended → Packed → ℕ → Left → Option (List ℕ) → Option (List ℕ) → Type 0
-EndsBeginning HasFailed e root bytes left before after =
-    ((e ≡ NoMemory) × (after ≡ before))
-    ⊎ ((e ≡ Ledger) × HasFailed × ((after ≡ before)
-    ⊎ IsBegun (kept_part left before) (due_header root (kept_size bytes left)) after))
-
--- why a trunk that is loaded isn't grown: it isn't begun, or the settling ended early; where that is for the ledger, it has failed
-abbrev pub EndsGrowing : (Packed → Recorded → Type 0) → Type 0 → ℕ → Ended → Contents → ℕ → Left → Option (List ℕ)
-    → Option (List ℕ) → Type 0
-EndsGrowing Answers HasFailed limit e loaded bytes left before after =
-    EndsBeginning HasFailed e loaded.root bytes left before after
-    ⊎ ((e ≡ Ledger → HasFailed) × ((new : Contents)
-    × EndsSettling Answers (IsOpenBelow limit) e loaded (begun_trunk loaded.root bytes left before) new after))
-
--- why the trunk that a reader has in its first bytes isn't grown: it isn't loaded, or the looking for parts ended, and nothing
--- is done; or none of the tables to be settled has a part, and the growing ended
-abbrev pub EndsTrunk : (Packed → Result Bool Ended → Type 0) → (Packed → Recorded → Type 0) → Type 0 → ℕ → ℕ → Ended
-    → Option (List ℕ) → ℕ → Option (List ℕ) → Option (List ℕ) → Type 0
-EndsTrunk Sees Answers HasFailed n limit e has size before after =
-    (IsNoTrunk n has size e × (after ≡ before))
+-- and of that which a reader has in its first bytes: it is as it was; or it was loaded as the trunk of the tree of n states,
+-- none of the tables to be settled had a part, and it is left so
+abbrev pub LeavesTrunk : (Packed → Type 0) → (Packed → Recorded → Type 0) → ℕ → ℕ → Option (List ℕ) → ℕ
+    → Option (List ℕ) → Option (List ℕ) → Type 0
+LeavesTrunk HasNoPart Answers n limit has size before after =
+    (after ≡ before)
     ⊎ ((text : List ℕ) × (loaded : Contents) × (left : Left) × AreFirstBytes has size text
-    × LoadGives (empty_table n) text (Ok (loaded, left))
-    × ((EndsLooking Sees limit loaded e × (after ≡ before))
-    ⊎ (((t : Packed) → IsOpenBelow limit loaded t → Sees t (Ok false))
-    × EndsGrowing Answers HasFailed limit e loaded (length text) left before after)))
+    × LoadGives (empty_table n) text (Ok (loaded, left)) × ((t : Packed) → IsOpenBelow limit loaded t → HasNoPart t)
+    × LeavesGrown Answers limit loaded (length text) left before after)
 
 -- the line that says how many records the trunk has, and how many parts there are
 abbrev pub split_text : Tally → List ℕ

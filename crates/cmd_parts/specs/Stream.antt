@@ -12,9 +12,10 @@ use Rattle.ledger.specs.Tally.{AreAll}
 use Rattle.ledger.specs.declared.left.Left.{Left}
 use Rattle.parts.specs.Parts.{AreParts}
 use Rattle.cmd_ledgers.specs.LedgerReport.{EndsLedger}
+use Rattle.cmd_options.specs.Ends.{PrintsNothing}
 use Rattle.cmd_options.specs.Outcome.{ended_line}
 use Rattle.cmd_options.specs.declared.ended.Ended.{Ended}
-use Rattle.cmd_options.specs.declared.ended.Ended.TheVariants.{BadHeader, NoMemory, Stream, WrongRoot}
+use Rattle.cmd_options.specs.declared.ended.Ended.TheVariants.{BadHeader, WrongRoot}
 use Rattle.cmd_options.specs.declared.outcome.Outcome.{Outcome}
 use Rattle.cmd_parts.specs.Join.{TellsParts, counted_part, is_silent, left_line, line_behind}
 use Rattle.cmd_parts.specs.Ledgers.{AreLedgers}
@@ -100,21 +101,9 @@ pub record TellsStream (IsText : Packed → List Recorded → Left → List ℕ 
   pub tells : TellsParts IsText trunk parts (is_silent lines) said new_said o
   pub warns : Appends faults new_faults lines
 
--- the trunk has no root, or one that isn't in order
-abbrev pub LacksTrunk : Ended → Type 0
-LacksTrunk e = ((e ≡ BadHeader) ⊎ (e ≡ WrongRoot)) × ((text : List ℕ) × EndsLedger text e)
-
--- what may end the telling: refused memory, a trunk without a root, or a stream that failed
-abbrev pub EndsEarly : Ended → Type 0
-EndsEarly e = ((e ≡ NoMemory) ⊎ LacksTrunk e) ⊎ (e ≡ Stream)
-
--- nothing is printed then, unless a stream failed
-abbrev pub EndsStream : Ended → Option (List ℕ) → Option (List ℕ) → Type 0
-EndsStream e said new_said = EndsEarly e × ((new_said ≡ said) ⊎ (e ≡ Stream))
-
 -- what may come of it
 abbrev pub JoinsStream : (Packed → List Recorded → Left → List ℕ → Type 0) → Option (List ℕ) → Option (List ℕ)
     → Option (List ℕ) → Option (List ℕ) → Option (List ℕ) → Option (List ℕ) → Result Outcome Ended → Type 0
 JoinsStream IsText read new_read said new_said faults new_faults (Ok o) =
     TellsStream IsText read new_read said new_said faults new_faults o
-JoinsStream IsText read new_read said new_said faults new_faults (Err e) = EndsStream e said new_said
+JoinsStream IsText read new_read said new_said faults new_faults (Err e) = PrintsNothing e said new_said

@@ -2,7 +2,7 @@
 pub mod Looking
 pub mod Taking
 pub mod Joining
-use Rattle.std.specs.Prelude.{◌≡◌, ◌⊎◌, ℕ, Bool, List, [], ◌++◌, Option, None, Some, Ok, nat_lt}
+use Rattle.std.specs.Prelude.{◌≡◌, ℕ, Bool, List, [], ◌++◌, Option, None, Some, Ok, nat_lt}
 use Rattle.std.specs.Io.KnownBytes.{Appends}
 use Rattle.machine_text.specs.Packed.{Packed}
 use Rattle.cert.specs.Claim.{Recorded}
@@ -11,9 +11,7 @@ use Rattle.ledger.specs.LedgerText.{ledger_text}
 use Rattle.wire.specs.Device.{grown}
 use Rattle.parts.specs.Parts.{joined_with}
 use Rattle.parts.specs.Whole.{AddGives, Collected, IsWhole}
-use Rattle.cmd_options.specs.declared.ended.Ended.{Ended}
-use Rattle.cmd_options.specs.declared.ended.Ended.TheVariants.{Stream}
-use Rattle.cmd_parts.specs.Join.{AreMet, FailsAny, Findings, is_silent, record_lines}
+use Rattle.cmd_parts.specs.Join.{AreMet, Findings, is_silent, record_lines}
 use Rattle.cmd_parts.specs.Settling.{filled_count}
 
 abbrev pub is_below : ℕ → Packed → Bool
@@ -60,12 +58,8 @@ pub record AreAdded (Finds : Findings) (folder : List ℕ) (roots : List Packed)
       → after ≡ grown start (ledger_text trunk.root (joined_with trunk.records parts))
   pub counts : (rs : List Recorded) → Old rs → New (joined_with rs parts)
 
--- why a part isn't met: something fails, and nothing is said, unless it is a stream
-abbrev pub EndsPart : Ended → Option (List ℕ) → Option (List ℕ) → Type 0
-EndsPart e faults new_faults = FailsAny e × ((new_faults ≡ faults) ⊎ (e ≡ Stream))
-
--- why those of these roots aren't added: something fails, and what is wrong with the first ones is said
-pub record EndsAdding (Finds : Findings) (folder : List ℕ) (roots : List Packed) (e : Ended)
+-- what is wrong with the parts of the first of these roots is said
+pub record SaysMet (Finds : Findings) (folder : List ℕ) (roots : List Packed)
     (faults new_faults : Option (List ℕ)) : Type 0 where
   pub met : List Packed
   pub later : List Packed
@@ -73,5 +67,4 @@ pub record EndsAdding (Finds : Findings) (folder : List ℕ) (roots : List Packe
   pub parts : List Contents
   pub lines : List ℕ
   pub are_met : AreMet Finds folder met parts lines
-  pub why : FailsAny e
-  pub says : Appends faults new_faults lines ⊎ (e ≡ Stream)
+  pub says : Appends faults new_faults lines

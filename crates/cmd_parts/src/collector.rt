@@ -10,11 +10,10 @@ use wire::{LedgerOut, append_all};
 
 /// Where the one ledger of a trunk and its parts goes, board for board.
 pub trait Collector {
-    ghost use Rattle.std.specs.Prelude.{◌≡◌, ◌++◌, List, ℕ, Option, IfErr, OnOk};
+    ghost use Rattle.std.specs.Prelude.{◌≡◌, ◌++◌, List, ℕ, Option, OnOk};
     ghost use Rattle.cert.specs.Claim.{Recorded};
     ghost use Rattle.ledger.specs.LedgerText.{ledger_text};
     ghost use Rattle.wire.specs.Device.{grown};
-    ghost use Rattle.cmd_ledgers.specs.AtPath.{FailsWriting};
     ghost use Rattle.cmd_parts.specs.Join.{record_lines};
 
     /// The ledger's text, where it is known.
@@ -27,15 +26,13 @@ pub trait Collector {
     fn begin(&mut self, alloc: Global, trunk: &Board) -> Result<(), Ended>
         ensures ok { OnOk result (text self.new ≡ grown (text self.old)
             (ledger_text trunk.now.root trunk.now.records)) }
-        ensures counts { OnOk result (counts self.new trunk.now.records) }
-        ensures err { IfErr result FailsWriting };
+        ensures counts { OnOk result (counts self.new trunk.now.records) };
 
     /// Adds the lines of a part. Errors: the same.
     fn add(&mut self, alloc: Global, part: &Board) -> Result<(), Ended>
         ensures ok { OnOk result (text self.new ≡ grown (text self.old) (record_lines part.now.records)) }
         ensures counts { OnOk result ((rs : List Recorded) → counts self.old rs
-            → counts self.new (rs ++ part.now.records)) }
-        ensures err { IfErr result FailsWriting };
+            → counts self.new (rs ++ part.now.records)) };
 }
 
 /// There is no such ledger.

@@ -1,12 +1,11 @@
 // A folder of ledgers, one for each part of a tree.
-ghost use Rattle.std.specs.Prelude.{◌≡◌, ℕ, List, codes, IfErr, IfOk, None, OnOk, Some, string_bytes};
+ghost use Rattle.std.specs.Prelude.{◌≡◌, ℕ, List, codes, IfOk, None, OnOk, Some, string_bytes};
 ghost use Rattle.machine_text.specs.Packed.{Packed};
 ghost use Rattle.machine_text.specs.Text.{text_of};
 ghost use Rattle.ledger.specs.Contents.{IsOpenOn};
 ghost use Rattle.ledger.specs.Tally.{AreAll};
 ghost use Rattle.files.specs.Paths.{IsToldStill};
 ghost use Rattle.cmd_parts.specs.AtPaths.{AreBegunAt, IsBegunAt, IsPartBegun, IsSizeAt};
-ghost use Rattle.cmd_ledgers.specs.GoingOn.{FailsReading};
 ghost use Rattle.cmd_parts.specs.Split.{begun_part, path_within};
 
 use cmd_options::{Durability, Ended, LedgerFile, ended_by};
@@ -143,8 +142,7 @@ fn write_over<L: LedgerOut>(ledger: &mut L, bytes: &[u8]) -> Result<(), Ended>
 
 // How many bytes the file at a path has; none where it isn't there.
 fn bytes_at<H: Files>(host: &H, path: &str) -> Result<u64, Ended>
-    ensures ok { IfOk result (IsSizeAt (H.holds host.now path.now)) }
-    ensures err { IfErr result FailsReading }
+    ensures { IfOk result (IsSizeAt (H.holds host.now path.now)) }
 {
     match held_at(host, path) {
         Ok(held) => Ok(held.length),

@@ -1,11 +1,10 @@
 // `bb look --holdouts`.
-ghost use Rattle.std.specs.Prelude.{◌≡◌, ◌⊎◌, ◌++◌, ◌∷◌, [], IfErr, IfOk, OnOk, map};
+ghost use Rattle.std.specs.Prelude.{◌≡◌, ◌++◌, ◌∷◌, [], IfOk, OnOk, map};
 ghost use Rattle.std.specs.Io.KnownBytes.{Appends};
 ghost use Rattle.std.specs.Vec.Iter.{into_iter_items};
 ghost use Rattle.text.specs.Lines.{joined};
 ghost use Rattle.machine_text.specs.Text.{text_of};
-ghost use Rattle.cmd_parts.specs.Look.{EndsLookUp, PrintsAt, PrintsOfFolder};
-ghost use Rattle.cmd_parts.specs.Join.{EndsJoining};
+ghost use Rattle.cmd_parts.specs.Look.{PrintsAt, PrintsOfFolder};
 
 use crate::loading::board_at;
 use crate::{Nowhere, PartLedgers, gather};
@@ -24,9 +23,8 @@ pub(crate) fn print_at<S: PartLedgers, W: Write, E: Write>(
     answers: &mut W,
     faults: &mut E,
 ) -> Result<Outcome, Ended>
-    ensures ok { IfOk result (PrintsAt (S.finds parts.now) path.now (W.contents answers.old) (W.contents answers.new)
+    ensures { IfOk result (PrintsAt (S.finds parts.now) path.now (W.contents answers.old) (W.contents answers.new)
         (E.contents faults.old) (E.contents faults.new)) }
-    ensures err { IfErr result (EndsLookUp (S.finds parts.now) path.now) }
 {
     if parts.is_folder(path) {
         return print_of_folder(alloc, path, parts, answers, faults);
@@ -48,9 +46,8 @@ fn print_of_folder<S: PartLedgers, W: Write, E: Write>(
     answers: &mut W,
     faults: &mut E,
 ) -> Result<Outcome, Ended>
-    ensures ok { IfOk result (λ o. (o ≡ Outcome.Accepted) × PrintsOfFolder (S.finds parts.now) path.now
+    ensures { IfOk result (λ o. (o ≡ Outcome.Accepted) × PrintsOfFolder (S.finds parts.now) path.now
         (W.contents answers.old) (W.contents answers.new) (E.contents faults.old) (E.contents faults.new)) }
-    ensures err { IfErr result (EndsJoining (S.finds parts.now) path.now) }
 {
     let (whole, _) = gather(alloc, path, parts, &mut Nowhere, faults)?;
     let (_, _, holdouts) = whole.champions_and_holdouts()?;
@@ -60,9 +57,8 @@ fn print_of_folder<S: PartLedgers, W: Write, E: Write>(
 
 // Prints tables, a line each.
 fn print_holdouts<W: Write>(alloc: Global, holdouts: Holdouts, answers: &mut W) -> Result<(), Ended>
-    ensures ok { OnOk result (Appends (W.contents answers.old) (W.contents answers.new)
+    ensures { OnOk result (Appends (W.contents answers.old) (W.contents answers.new)
         (joined (map text_of (into_iter_items holdouts)))) }
-    ensures err { IfErr result (λ e. (e ≡ Ended.NoMemory) ⊎ (e ≡ Ended.Stream)) }
 {
     let mut line = Vec::new(alloc);
     for table in holdouts {
@@ -73,8 +69,7 @@ fn print_holdouts<W: Write>(alloc: Global, holdouts: Holdouts, answers: &mut W) 
 
 // Prints a table, whose line is made in place of another one.
 fn print_line<W: Write>(t: &Table, line: &mut Vec<u8>, answers: &mut W) -> Result<(), Ended>
-    ensures ok { OnOk result (Appends (W.contents answers.old) (W.contents answers.new) (text_of t.now ++ 10 ∷ [])) }
-    ensures err { IfErr result (λ e. (e ≡ Ended.NoMemory) ⊎ (e ≡ Ended.Stream)) }
+    ensures { OnOk result (Appends (W.contents answers.old) (W.contents answers.new) (text_of t.now ++ 10 ∷ [])) }
 {
     line.clear();
     append_table(t, line)?;

@@ -1,14 +1,12 @@
 // `bb join`: a trunk and the parts of its tree, told of as one ledger would be that holds the records of all.
-ghost use Rattle.std.specs.Prelude.{◌≡◌, ◌⊎◌, ◌++◌, [], ℕ, Contains, IfErr, IfNone, IfOk, IfSome, List, Ok, OnOk, Option, Result, false, codes};
+ghost use Rattle.std.specs.Prelude.{◌≡◌, ◌⊎◌, [], ℕ, Contains, IfErr, IfNone, IfOk, IfSome, List, Ok, OnOk, Option, Result, false};
 ghost use Rattle.std.specs.Io.KnownBytes.{Appends};
-ghost use Rattle.machine_text.specs.Text.{text_of};
 ghost use Rattle.ledger.specs.Contents.{Contents, IsOpenOn};
 ghost use Rattle.ledger.specs.Tally.{AreAll};
 ghost use Rattle.ledger.specs.declared.left.Left.TheVariants.{Nothing};
 ghost use Rattle.cmd_options.specs.declared.outcome.Outcome.{Outcome as Outcomes};
 ghost use Rattle.cmd_options.specs.declared.ended.Ended.{Ended as Ends};
-ghost use Rattle.cmd_options.specs.Ends.{EndsTold};
-ghost use Rattle.cmd_ledgers.specs.AtPath.{FailsWriting};
+ghost use Rattle.cmd_options.specs.Ends.{EndsTold, PrintsNothing};
 ghost use Rattle.cmd_ledgers.specs.Told.{IsToldOf};
 ghost use Rattle.wire.specs.Device.{grown};
 ghost use Rattle.parts.specs.Parts.{joined_with};
@@ -16,9 +14,9 @@ ghost use Rattle.parts.specs.Whole.{AddGives, IsWhole};
 ghost use Rattle.files.specs.Paths.{IsBlank, IsKeptBut};
 ghost use Rattle.cmd_parts.specs.AtPaths.{JoinsAt, CollectsAt, finds_at};
 ghost use Rattle.cmd_parts.specs.Split.{path_within};
-ghost use Rattle.cmd_parts.specs.Join.{EndsTelling, FailsFile, HasNoTrunk, IsMet, IsMetAs, IsMetIn, IsReadAt, TellsAll, TellsParts, ended_by, is_silent, left_line, line_behind, record_lines};
-ghost use Rattle.cmd_parts.specs.Gather.{EndsGathering, IsGathered};
-ghost use Rattle.cmd_parts.specs.inside.{AreAdded, CountsMore, EndsAdding, EndsPart, MeetsPart};
+ghost use Rattle.cmd_parts.specs.Join.{IsMet, IsMetAs, IsMetIn, IsReadAt, TellsAll, TellsParts, WarnsFirst, ended_by, is_silent, left_line, line_behind, record_lines};
+ghost use Rattle.cmd_parts.specs.Gather.{IsGathered};
+ghost use Rattle.cmd_parts.specs.inside.{AreAdded, CountsMore, MeetsPart, SaysMet};
 
 use crate::collector::{Collector, Nowhere, OneLedger};
 use crate::folder::{TRUNK, part_path, path_within};
@@ -138,10 +136,9 @@ fn joined<H: Files, P: ReportForm, W: Write, E: Write>(
     ensures ok { IfOk result (λ j. (begun : Option (List ℕ)) × IsBlank begun
         × TellsAll (P.is_text form.now) (finds_at (H.holds host.now)) folder.now begun (H.Made.text j.0)
         (W.contents answers.old) (W.contents answers.new) (E.contents faults.old) (E.contents faults.new) j.1) }
-    ensures err { IfErr result (λ e. (FailsWriting e × (W.contents answers.new ≡ W.contents answers.old)
-        × (E.contents faults.new ≡ E.contents faults.old))
-        ⊎ EndsTelling (finds_at (H.holds host.now)) folder.now e (W.contents answers.old) (W.contents answers.new)
-        (E.contents faults.old) (E.contents faults.new)) }
+    ensures silent { IfErr result (λ e. PrintsNothing e (W.contents answers.old) (W.contents answers.new)) }
+    ensures warned { IfErr result (WarnsFirst (finds_at (H.holds host.now)) folder.now (E.contents faults.old)
+        (E.contents faults.new)) }
 {
     let mut one = OneLedger {
         ledger: made_for(host, out, &[])?,
@@ -169,8 +166,9 @@ fn join_beside<'a, H: Files, P: ReportForm, C: Collector, W: Write, E: Write>(
     ensures ok { IfOk result (TellsAll (P.is_text form.now) (finds_at (H.holds host.now)) folder.now
         (C.text collector.old) (C.text collector.new) (W.contents answers.old) (W.contents answers.new)
         (E.contents faults.old) (E.contents faults.new)) }
-    ensures err { IfErr result (λ e. EndsTelling (finds_at (H.holds host.now)) folder.now e
-        (W.contents answers.old) (W.contents answers.new) (E.contents faults.old) (E.contents faults.new)) }
+    ensures silent { IfErr result (λ e. PrintsNothing e (W.contents answers.old) (W.contents answers.new)) }
+    ensures warned { IfErr result (WarnsFirst (finds_at (H.holds host.now)) folder.now (E.contents faults.old)
+        (E.contents faults.new)) }
 {
     let parts = PartsAt {
         host,
@@ -195,8 +193,9 @@ pub fn join_parts<S: PartLedgers, P: ReportForm, C: Collector, W: Write, E: Writ
     ensures tells { IfOk result (TellsAll (P.is_text form.now) (S.finds parts.now) folder.now
         (C.text collector.old) (C.text collector.new) (W.contents answers.old) (W.contents answers.new)
         (E.contents faults.old) (E.contents faults.new)) }
-    ensures ended { IfErr result (λ e. EndsTelling (S.finds parts.now) folder.now e (W.contents answers.old)
-        (W.contents answers.new) (E.contents faults.old) (E.contents faults.new)) }
+    ensures silent { IfErr result (λ e. PrintsNothing e (W.contents answers.old) (W.contents answers.new)) }
+    ensures warned { IfErr result (WarnsFirst (S.finds parts.now) folder.now (E.contents faults.old)
+        (E.contents faults.new)) }
 {
     let (whole, is_sound) = gather(alloc, folder, parts, collector, faults)?;
     tell_whole(alloc, form, &whole, is_sound, answers)
@@ -214,7 +213,7 @@ pub fn gather<S: PartLedgers, C: Collector, E: Write>(
     ensures ok { IfOk result (λ gathered. IsGathered (S.finds parts.now) folder.now gathered.0 gathered.1
         (C.text collector.old) (C.text collector.new) (E.contents faults.old) (E.contents faults.new)
         (C.counts collector.new)) }
-    ensures err { IfErr result (λ e. EndsGathering (S.finds parts.now) folder.now e (E.contents faults.old)
+    ensures err { IfErr result (WarnsFirst (S.finds parts.now) folder.now (E.contents faults.old)
         (E.contents faults.new)) }
 {
     let path = path_within(alloc, folder, TRUNK)?;
@@ -235,9 +234,7 @@ fn spare<S: PartLedgers>(
     folder: &str,
     trunk: &str,
     roots: &[Table],
-) -> Result<(), Ended>
-    ensures { IfErr result (λ e. (e ≡ Ended.OutInFolder) ⊎ FailsFile e) }
-{
+) -> Result<(), Ended> {
     if parts.is_written(trunk)? {
         return Err(Ended::OutInFolder);
     }
@@ -265,8 +262,8 @@ fn add_parts<S: PartLedgers, C: Collector, E: Write>(
         (S.finds parts.now) folder.now roots.now whole.old.trunk whole.new sound (C.text collector.old)
         (C.text collector.new) (E.contents faults.old) (E.contents faults.new)
         (C.counts collector.old) (C.counts collector.new)) }
-    ensures err { IfErr result (λ e. EndsAdding (S.finds parts.now) folder.now roots.now e (E.contents faults.old)
-        (E.contents faults.new)) }
+    ensures err { IfErr result (λ e. SaysMet (S.finds parts.now) folder.now roots.now (E.contents faults.old)
+        (E.contents faults.new) ⊎ (e ≡ Ended.Stream)) }
 {
     let mut are_sound = true;
     for root in roots {
@@ -289,8 +286,7 @@ pub fn tell_whole<P: ReportForm, W: Write>(
     ensures ok { IfOk result (λ o. (parts : List Contents) → IsWhole whole.now parts
         → TellsParts (P.is_text form.now) whole.now.trunk parts is_sound (W.contents answers.old)
         (W.contents answers.new) o) }
-    ensures err { IfErr result (λ e. ((e ≡ Ended.NoMemory) × (W.contents answers.new ≡ W.contents answers.old))
-        ⊎ (e ≡ Ended.Stream)) }
+    ensures err { IfErr result (λ e. PrintsNothing e (W.contents answers.old) (W.contents answers.new)) }
 {
     let status = whole.status();
     write_told(alloc, form, told_of(whole)?, &Left::Nothing, answers)?;
@@ -310,8 +306,7 @@ fn outcome_of(status: Status, is_sound: bool) -> Outcome
 
 // The board of the trunk's ledger, which has to be there, and what of it wasn't kept.
 fn trunk_at<S: PartLedgers>(alloc: Global, parts: &S, path: &str) -> Result<(Board, Left), Ended>
-    ensures ok { IfOk result (λ l. IsReadAt (S.finds parts.now) path.now l.0 l.1) }
-    ensures err { IfErr result (λ e. FailsFile e ⊎ HasNoTrunk (S.finds parts.now) path.now e) }
+    ensures { IfOk result (λ l. IsReadAt (S.finds parts.now) path.now l.0 l.1) }
 {
     match parts.open(path)? {
         Some(mut file) => match load_from(alloc, &mut file.reader, file.length) {
@@ -349,7 +344,7 @@ fn join_part<S: PartLedgers, C: Collector, E: Write>(
         (S.finds parts.now) folder.now root.now) sound whole.old whole.new (C.text collector.old)
         (C.text collector.new) (E.contents faults.old) (E.contents faults.new)
         (C.counts collector.old) (C.counts collector.new)) }
-    ensures err { IfErr result (λ e. EndsPart e (E.contents faults.old) (E.contents faults.new)) }
+    ensures err { IfErr result (λ e. PrintsNothing e (E.contents faults.old) (E.contents faults.new)) }
 {
     let path = part_path(alloc, folder, root)?;
     match parts.open(&path)? {
@@ -373,7 +368,7 @@ fn add_read<F: Read + Drop, C: Collector, E: Write>(
         (F.remaining file.reader) file.length path.now root.now) sound whole.old whole.new (C.text collector.old)
         (C.text collector.new) (E.contents faults.old) (E.contents faults.new)
         (C.counts collector.old) (C.counts collector.new)) }
-    ensures err { IfErr result (λ e. EndsPart e (E.contents faults.old) (E.contents faults.new)) }
+    ensures err { IfErr result (λ e. PrintsNothing e (E.contents faults.old) (E.contents faults.new)) }
 {
     match load_from(alloc, &mut file.reader, file.length) {
         Ok((part, left)) => {
@@ -402,7 +397,7 @@ fn add_loaded<C: Collector, E: Write>(
         (IsMetAs part.now left.now path.now root.now) sound whole.old whole.new (C.text collector.old)
         (C.text collector.new) (E.contents faults.old) (E.contents faults.new)
         (C.counts collector.old) (C.counts collector.new)) }
-    ensures err { IfErr result (λ e. EndsPart e (E.contents faults.old) (E.contents faults.new)) }
+    ensures err { IfErr result (λ e. PrintsNothing e (E.contents faults.old) (E.contents faults.new)) }
 {
     if *part.root() != *root {
         return says(alloc, path, b"refused 406", faults);
@@ -419,10 +414,9 @@ fn add<C: Collector>(
     collector: &mut C,
 ) -> Result<(), Ended>
     requires { IsOpenOn whole.old.trunk part.now.root × (Contains whole.old.roots part.now.root → ⊥) }
-    ensures ok { OnOk result (AddGives whole.old part.now (Ok tt) whole.new
+    ensures { OnOk result (AddGives whole.old part.now (Ok tt) whole.new
         × (C.text collector.new ≡ grown (C.text collector.old) (record_lines part.now.records))
         × CountsMore (C.counts collector.old) (C.counts collector.new) part.now.records) }
-    ensures err { IfErr result FailsWriting }
 {
     match whole.add(part) {
         Ok(()) => collector.add(alloc, part),
@@ -441,7 +435,7 @@ fn says_left<E: Write>(
 ) -> Result<bool, Ended>
     ensures ok { IfOk result (λ sound. (sound ≡ is_silent (left_line path.now left.now))
         × Appends (E.contents faults.old) (E.contents faults.new) (left_line path.now left.now)) }
-    ensures err { IfErr result (λ e. EndsPart e (E.contents faults.old) (E.contents faults.new)) }
+    ensures err { IfErr result (λ e. PrintsNothing e (E.contents faults.old) (E.contents faults.new)) }
 {
     match left {
         Left::Nothing => Ok(true),
@@ -458,7 +452,7 @@ fn says_left<E: Write>(
 fn says<E: Write>(alloc: Global, path: &str, what: &[u8], faults: &mut E) -> Result<bool, Ended>
     ensures ok { IfOk result (λ sound. (sound ≡ false)
         × Appends (E.contents faults.old) (E.contents faults.new) (line_behind path.now what.now)) }
-    ensures err { IfErr result (λ e. EndsPart e (E.contents faults.old) (E.contents faults.new)) }
+    ensures err { IfErr result (λ e. PrintsNothing e (E.contents faults.old) (E.contents faults.new)) }
 {
     let mut line = Vec::new(alloc);
     line.extend_from_slice(path.as_bytes())?;

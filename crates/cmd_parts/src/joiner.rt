@@ -1,11 +1,8 @@
 // A whole to which the ledgers of a stream are added.
-ghost use Rattle.std.specs.Prelude.{◌≡◌, ◌⊎◌, [], List, ℕ, None, Some, IfErr, IfOk, OnOk};
+ghost use Rattle.std.specs.Prelude.{◌≡◌, [], List, ℕ, None, Some, IfOk, OnOk};
 ghost use Rattle.indexmap.specs.IndexSet.{insert_key};
 ghost use Rattle.ledger.specs.Records.{same_table};
 ghost use Rattle.std.specs.Io.KnownBytes.{Appends};
-ghost use Rattle.ledger.specs.Contents.{Contents};
-ghost use Rattle.parts.specs.Whole.{IsWhole};
-ghost use Rattle.cmd_parts.specs.Stream.{EndsEarly, LacksTrunk};
 ghost use Rattle.cmd_parts.specs.inside.Joining.{AddsBoard, AddsLedger, AddsPart, BeginsTrunk, Joins, SaysAdding};
 
 use crate::ledger_taker::LedgerTaker;
@@ -50,9 +47,8 @@ impl Joiner {
 
     // Takes the trunk.
     fn begin<E: Write>(&mut self, text: &[u8], faults: &mut E) -> Result<(), Ended>
-        ensures ok { OnOk result ((said : List ℕ) × BeginsTrunk self.old text.now self.new said
+        ensures { OnOk result ((said : List ℕ) × BeginsTrunk self.old text.now self.new said
             × Appends (E.contents faults.old) (E.contents faults.new) said) }
-        ensures err { IfErr result EndsEarly }
     {
         let (trunk, left) = load(self.alloc, text)?;
         self.is_sound = says_left(self.alloc, b"trunk", &left, faults)?;
@@ -63,9 +59,8 @@ impl Joiner {
 
     // Takes a part of what has come before.
     fn add<E: Write>(&mut self, mut whole: Whole, text: &[u8], faults: &mut E) -> Result<(), Ended>
-        ensures ok { OnOk result ((said : List ℕ) × AddsLedger self.old whole text.now self.new said
+        ensures { OnOk result ((said : List ℕ) × AddsLedger self.old whole text.now self.new said
             × Appends (E.contents faults.old) (E.contents faults.new) said) }
-        ensures err { IfErr result EndsEarly }
     {
         let (alloc, number) = (self.alloc, self.number);
         let is_sound = add_part(alloc, number, text, &mut whole, &mut self.came, faults)?;
@@ -82,8 +77,6 @@ impl Joiner {
 
 impl LedgerTaker for Joiner {
     ghost takes = { Joins };
-
-    ghost ends = { EndsEarly };
 
     fn take_ledger<E: Write>(&mut self, text: &[u8], faults: &mut E) -> Result<(), Ended> {
         match self.whole.take() {
@@ -102,10 +95,9 @@ fn add_part<E: Write>(
     came: &mut IndexSet<Table>,
     faults: &mut E,
 ) -> Result<bool, Ended>
-    ensures ok { IfOk result (λ sound. SaysAdding
+    ensures { IfOk result (λ sound. SaysAdding
         (AddsPart number text.now whole.old came.old.keys whole.new came.new.keys) sound
         (E.contents faults.old) (E.contents faults.new)) }
-    ensures err { IfErr result (λ e. (e ≡ Ended.NoMemory) ⊎ (e ≡ Ended.Stream)) }
 {
     match load(alloc, text) {
         Ok((part, left)) => add_board(alloc, &part, &left, whole, came, faults),
@@ -125,10 +117,9 @@ fn add_board<E: Write>(
     came: &mut IndexSet<Table>,
     faults: &mut E,
 ) -> Result<bool, Ended>
-    ensures ok { IfOk result (λ sound. SaysAdding
+    ensures { IfOk result (λ sound. SaysAdding
         (AddsBoard part.now left.now whole.old came.old.keys whole.new came.new.keys) sound
         (E.contents faults.old) (E.contents faults.new)) }
-    ensures err { IfErr result (λ e. (e ≡ Ended.NoMemory) ⊎ (e ≡ Ended.Stream)) }
 {
     let name = root_name(alloc, part.root())?;
     match whole.add(part) {
@@ -144,8 +135,7 @@ fn add_board<E: Write>(
 
 // Puts a root among those that came.
 fn put_root(came: &mut IndexSet<Table>, root: &Table) -> Result<(), Ended>
-    ensures ok { OnOk result (came.new.keys ≡ insert_key same_table came.old.keys root.now) }
-    ensures err { IfErr result (λ e. e ≡ Ended.NoMemory) }
+    ensures { OnOk result (came.new.keys ≡ insert_key same_table came.old.keys root.now) }
 {
     match came.insert(*root) {
         Ok(_) => Ok(()),

@@ -1,5 +1,5 @@
 // From the pieces of a stream to its ledgers.
-ghost use Rattle.std.specs.Prelude.{◌≡◌, ◌⊎◌, ◌++◌, ◌∷◌, [], List, ℕ, Option, IfErr, OnOk};
+ghost use Rattle.std.specs.Prelude.{◌≡◌, ◌++◌, ◌∷◌, [], List, ℕ, Option, OnOk};
 ghost use Rattle.cmd_parts.specs.inside.Taking.{CutsBefore, HasTaken, TakesAll, TakesMoreLedgers, TakesLedgers};
 
 use crate::head::is_head;
@@ -28,9 +28,8 @@ pub(crate) fn take_ledgers<R: Read, T: LedgerTaker, E: Write>(
     taker: &mut T,
     faults: &mut E,
 ) -> Result<(), Ended>
-    ensures ok { OnOk result (TakesLedgers T.takes taker.old taker.new (R.remaining input.old) (R.remaining input.new)
+    ensures { OnOk result (TakesLedgers T.takes taker.old taker.new (R.remaining input.old) (R.remaining input.new)
         (E.contents faults.old) (E.contents faults.new)) }
-    ensures err { IfErr result (λ e. ((e ≡ Ended.NoMemory) ⊎ T.ends e) ⊎ (e ≡ Ended.Stream)) }
 {
     let mut ledgers = LedgerLoop::new(alloc);
     let mut buf = [0; PIECE_BYTES];
@@ -68,9 +67,8 @@ impl LedgerLoop {
         taker: &mut T,
         faults: &mut E,
     ) -> Result<(), Ended>
-        ensures ok { OnOk result (TakesMoreLedgers T.takes piece.now self.old.before.items self.old.line.items taker.old
+        ensures { OnOk result (TakesMoreLedgers T.takes piece.now self.old.before.items self.old.line.items taker.old
             (E.contents faults.old) self.new.before.items self.new.line.items taker.new (E.contents faults.new)) }
-        ensures err { IfErr result (λ e. (e ≡ Ended.NoMemory) ⊎ T.ends e) }
     {
         let mut left = piece;
         'lines: loop {
@@ -87,11 +85,10 @@ impl LedgerLoop {
 
     // At the end of the stream: takes the last ledger, and the one before it where that isn't taken yet.
     fn end<T: LedgerTaker, E: Write>(&mut self, taker: &mut T, faults: &mut E) -> Result<(), Ended>
-        ensures ok { OnOk result ((start : T) (begun : Option (List ℕ)) (text : List ℕ)
+        ensures { OnOk result ((start : T) (begun : Option (List ℕ)) (text : List ℕ)
             → HasTaken T.takes start begun text self.old.before.items self.old.line.items taker.old
             (E.contents faults.old)
             → TakesAll T.takes start begun text taker.new (E.contents faults.new)) }
-        ensures err { IfErr result (λ e. (e ≡ Ended.NoMemory) ⊎ T.ends e) }
     {
         self.cut_before_line(taker, faults)?;
         self.before.extend_from_slice(&self.line)?;
@@ -107,7 +104,6 @@ impl LedgerLoop {
         ensures ok { OnOk result (CutsBefore T.takes self.old.before.items self.old.line.items taker.old
             (E.contents faults.old) self.new.before.items taker.new (E.contents faults.new)) }
         ensures line { self.new.line.items ≡ self.old.line.items }
-        ensures err { IfErr result T.ends }
     {
         if is_head(&self.line) && !self.before.is_empty() {
             taker.take_ledger(&self.before, faults)?;
@@ -120,7 +116,6 @@ impl LedgerLoop {
     fn keep_line(&mut self) -> Result<(), Ended>
         ensures before { OnOk result (self.new.before.items ≡ self.old.before.items ++ self.old.line.items ++ 10 ∷ []) }
         ensures line { OnOk result (self.new.line.items ≡ []) }
-        ensures err { IfErr result (λ e. e ≡ Ended.NoMemory) }
     {
         self.before.extend_from_slice(&self.line)?;
         self.before.extend_from_slice(b"\n")?;

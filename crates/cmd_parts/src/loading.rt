@@ -1,7 +1,6 @@
 // Ledgers and parts that are loaded from where they stand.
-ghost use Rattle.std.specs.Prelude.{◌≡◌, ◌⊎◌, List, ℕ, IfErr, IfOk, IfSome};
-ghost use Rattle.cmd_parts.specs.Join.{FailsFile, HasNoTrunk, IsMetIn, IsReadAt};
-ghost use Rattle.cmd_parts.specs.Split.{path_within};
+ghost use Rattle.std.specs.Prelude.{◌≡◌, List, ℕ, IfOk, IfSome};
+ghost use Rattle.cmd_parts.specs.Join.{IsMetIn, IsReadAt};
 ghost use Rattle.ledger.specs.declared.left.Left.{Left as LeftOver};
 ghost use Rattle.cmd_parts.specs.inside.Looking.{IsFound, IsPicked};
 
@@ -16,8 +15,7 @@ use std::io::Read;
 
 // The board of the ledger at a path, which has to be there.
 pub(crate) fn board_at<S: PartLedgers>(alloc: Global, parts: &S, path: &str) -> Result<Board, Ended>
-    ensures ok { IfOk result (λ b. (left : LeftOver) × IsReadAt (S.finds parts.now) path.now b left) }
-    ensures err { IfErr result (λ e. FailsFile e ⊎ HasNoTrunk (S.finds parts.now) path.now e) }
+    ensures { IfOk result (λ b. (left : LeftOver) × IsReadAt (S.finds parts.now) path.now b left) }
 {
     match parts.open(path)? {
         Some(mut file) => match load_from(alloc, &mut file.reader, file.length) {
@@ -36,8 +34,7 @@ pub(crate) fn part_at<S: PartLedgers>(
     folder: &str,
     root: &Table,
 ) -> Result<Option<Board>, Ended>
-    ensures ok { IfOk result (IsFound (S.finds parts.now) folder.now root.now) }
-    ensures err { IfErr result FailsFile }
+    ensures { IfOk result (IsFound (S.finds parts.now) folder.now root.now) }
 {
     let path = part_path(alloc, folder, root)?;
     match parts.open(&path)? {
@@ -55,7 +52,6 @@ fn part_in<F: Read + Drop>(
     ensures met { IfOk result (λ found. (path : List ℕ) → (wrong : List ℕ)
         × IsMetIn (F.remaining file.reader) file.length path root.now found wrong) }
     ensures root { IfOk result (λ found. IfSome found (λ part. part.root ≡ root.now)) }
-    ensures err { IfErr result FailsFile }
 {
     match load_from(alloc, &mut file.reader, file.length) {
         Ok((part, _left)) => Ok(with_root(part, root)),

@@ -1,8 +1,7 @@
 // `bb look`.
-ghost use Rattle.std.specs.Prelude.{◌≡◌, IfErr, IfOk, false, true};
+ghost use Rattle.std.specs.Prelude.{◌≡◌, IfOk, false, true};
 ghost use Rattle.cmd_parts.specs.AtPaths.{finds_at};
-ghost use Rattle.cmd_parts.specs.Join.{EndsJoining};
-ghost use Rattle.cmd_parts.specs.Look.{AnswersByFolder, AnswersLines, EndsLookUp, PrintsAt};
+ghost use Rattle.cmd_parts.specs.Look.{AnswersByFolder, AnswersLines, PrintsAt};
 
 use crate::folder::trunk_path;
 use crate::folder_look::FolderLook;
@@ -35,7 +34,6 @@ pub fn look_at<H: Files, R: Read, W: Write, E: Write>(
     ensures holdouts { looking.now.holdouts ≡ true → IfOk result (PrintsAt (finds_at (H.holds host.now))
         looking.now.path.now (W.contents answers.old) (W.contents answers.new)
         (E.contents faults.old) (E.contents faults.new)) }
-    ensures err { IfErr result (EndsLookUp (finds_at (H.holds host.now)) looking.now.path.now) }
 {
     let parts = PartsAt {
         host,
@@ -57,7 +55,6 @@ pub fn look_in<S: PartLedgers, R: Read, W: Write, E: Write>(
         (R.remaining input.old) (R.remaining input.new) (W.contents answers.old) (W.contents answers.new)) }
     ensures holdouts { looking.now.holdouts ≡ true → IfOk result (PrintsAt (S.finds parts.now) looking.now.path.now
         (W.contents answers.old) (W.contents answers.new) (E.contents faults.old) (E.contents faults.new)) }
-    ensures err { IfErr result (EndsLookUp (S.finds parts.now) looking.now.path.now) }
 {
     if looking.holdouts {
         print_at(alloc, looking.path, parts, answers, faults)
@@ -74,9 +71,8 @@ fn answer_at<S: PartLedgers, R: Read, W: Write>(
     input: &mut R,
     answers: &mut W,
 ) -> Result<Outcome, Ended>
-    ensures ok { IfOk result (AnswersLines (S.finds parts.now) path.now (R.remaining input.old) (R.remaining input.new)
+    ensures { IfOk result (AnswersLines (S.finds parts.now) path.now (R.remaining input.old) (R.remaining input.new)
         (W.contents answers.old) (W.contents answers.new)) }
-    ensures err { IfErr result (EndsLookUp (S.finds parts.now) path.now) }
 {
     if parts.is_folder(path) {
         return answer_in_folder(alloc, path, parts, input, answers);
@@ -98,9 +94,8 @@ fn answer_in_folder<S: PartLedgers, R: Read, W: Write>(
     input: &mut R,
     answers: &mut W,
 ) -> Result<Outcome, Ended>
-    ensures ok { IfOk result (AnswersByFolder (S.finds parts.now) folder.now (R.remaining input.old)
+    ensures { IfOk result (AnswersByFolder (S.finds parts.now) folder.now (R.remaining input.old)
         (R.remaining input.new) (W.contents answers.old) (W.contents answers.new)) }
-    ensures err { IfErr result (EndsJoining (S.finds parts.now) folder.now) }
 {
     let path = trunk_path(alloc, folder)?;
     let trunk = board_at(alloc, parts, &path)?;

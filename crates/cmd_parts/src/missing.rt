@@ -1,5 +1,5 @@
 // Parts that haven't come.
-ghost use Rattle.std.specs.Prelude.{◌≡◌, ◌↔◌, ◌⊎◌, Contains, IfErr, IfOk, IsTrue};
+ghost use Rattle.std.specs.Prelude.{◌↔◌, Contains, IfOk, IsTrue};
 ghost use Rattle.cmd_parts.specs.inside.Joining.{SaysMissed, SaysRoot};
 
 use crate::remarks::{root_name, says};
@@ -16,9 +16,8 @@ pub(crate) fn says_missing<E: Write>(
     came: &IndexSet<Table>,
     faults: &mut E,
 ) -> Result<bool, Ended>
-    ensures ok { IfOk result (λ sound. SaysMissed came.now.keys roots.now sound (E.contents faults.old)
+    ensures { IfOk result (λ sound. SaysMissed came.now.keys roots.now sound (E.contents faults.old)
         (E.contents faults.new)) }
-    ensures err { IfErr result (λ e. (e ≡ Ended.NoMemory) ⊎ (e ≡ Ended.Stream)) }
 {
     let mut are_all = true;
     for root in roots {
@@ -36,9 +35,8 @@ fn looked_for<E: Write>(
     came: &IndexSet<Table>,
     faults: &mut E,
 ) -> Result<bool, Ended>
-    ensures ok { IfOk result (λ sound. SaysRoot came.now.keys root.now sound (E.contents faults.old)
+    ensures { IfOk result (λ sound. SaysRoot came.now.keys root.now sound (E.contents faults.old)
         (E.contents faults.new)) }
-    ensures err { IfErr result (λ e. (e ≡ Ended.NoMemory) ⊎ (e ≡ Ended.Stream)) }
 {
     if has_root(came, root) {
         return Ok(true);

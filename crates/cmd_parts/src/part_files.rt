@@ -1,15 +1,11 @@
 // Where the ledgers of a trunk and its parts are read.
-ghost use Rattle.std.specs.Prelude.{IfErr, IfOk, Ok};
-ghost use Rattle.cmd_parts.specs.Join.{FailsFile};
-
 use cmd_options::{Ended, ended_by};
 use files::{Files, Opened};
 use std::io::{ErrorKind, Read};
 
 /// Where the ledgers of a trunk and its parts are read, each by its path.
 pub trait PartLedgers {
-    ghost use Rattle.std.specs.Prelude.{ℕ, IfErr, IfOk, List, Option, option_map};
-    ghost use Rattle.cmd_parts.specs.Join.{FailsFile};
+    ghost use Rattle.std.specs.Prelude.{ℕ, IfOk, List, Option, option_map};
 
     type File: Read + Drop;
 
@@ -18,17 +14,15 @@ pub trait PartLedgers {
 
     /// Opens the ledger at a path; none where nothing is there. Errors: `File` where it can't be opened, `NoMemory`.
     fn open(&self, path: &str) -> Result<Option<Opened<Self::File>>, Ended>
-        ensures ok { IfOk result (λ found. finds self.now path.now (option_map (λ file.
-            (Self.File.remaining file.reader, file.length)) found)) }
-        ensures err { IfErr result FailsFile };
+        ensures { IfOk result (λ found. finds self.now path.now (option_map (λ file.
+            (Self.File.remaining file.reader, file.length)) found)) };
 
     /// Whether a folder stands at a path.
     fn is_folder(&self, path: &str) -> bool;
 
     /// Whether the ledger at a path is the one that is to be written, or would be lost where that is made. Errors: a link there
     /// that can't be followed, refused memory.
-    fn is_written(&self, path: &str) -> Result<bool, Ended>
-        ensures err { IfErr result FailsFile };
+    fn is_written(&self, path: &str) -> Result<bool, Ended>;
 }
 
 /// The files of a host.
@@ -82,10 +76,7 @@ impl<H: Files> PartLedgers for PartsAt<'_, H> {
 }
 
 // Whether the ledger at a path would be lost with a name.
-fn is_lost<H: Files>(host: &H, path: &str, name: &str) -> Result<bool, Ended>
-    ensures ok { IfOk result (λ told. H.leads host.now path.now name.now (Ok told)) }
-    ensures err { IfErr result FailsFile }
-{
+fn is_lost<H: Files>(host: &H, path: &str, name: &str) -> Result<bool, Ended> {
     match host.leads_to(path, name) {
         Ok(told) => Ok(told),
         Err(fault) => Err(ended_by(&fault, Ended::File)),

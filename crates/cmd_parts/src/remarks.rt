@@ -1,5 +1,5 @@
 // What is said of a ledger, behind its name.
-ghost use Rattle.std.specs.Prelude.{◌≡◌, ◌⊎◌, ◌++◌, false, codes, decimal, IfErr, IfOk};
+ghost use Rattle.std.specs.Prelude.{◌≡◌, false, IfOk};
 ghost use Rattle.std.specs.Io.KnownBytes.{Appends};
 ghost use Rattle.machine_text.specs.Text.{text_of};
 ghost use Rattle.cmd_parts.specs.Join.{is_silent, left_line, line_behind};
@@ -40,9 +40,8 @@ pub(crate) fn says_left<E: Write>(
     left: &Left,
     faults: &mut E,
 ) -> Result<bool, Ended>
-    ensures ok { IfOk result (λ sound. (sound ≡ is_silent (left_line name.now left.now))
+    ensures { IfOk result (λ sound. (sound ≡ is_silent (left_line name.now left.now))
         × Appends (E.contents faults.old) (E.contents faults.new) (left_line name.now left.now)) }
-    ensures err { IfErr result (λ e. (e ≡ Ended.NoMemory) ⊎ (e ≡ Ended.Stream)) }
 {
     match left {
         Left::Nothing => Ok(true),
@@ -62,9 +61,8 @@ pub(crate) fn says<E: Write>(
     what: &[u8],
     faults: &mut E,
 ) -> Result<bool, Ended>
-    ensures ok { IfOk result (λ sound. (sound ≡ false)
+    ensures { IfOk result (λ sound. (sound ≡ false)
         × Appends (E.contents faults.old) (E.contents faults.new) (line_behind name.now what.now)) }
-    ensures err { IfErr result (λ e. (e ≡ Ended.NoMemory) ⊎ (e ≡ Ended.Stream)) }
 {
     let mut line = Vec::new(alloc);
     line.extend_from_slice(name)?;

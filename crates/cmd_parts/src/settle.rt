@@ -1,9 +1,12 @@
 // `bb settle`: a ledger is gone on with until no table of its board is open.
-ghost use Rattle.std.specs.Prelude.{◌≡◌, ◌≢◌, ◌++◌, IfErr, IfSome, OnOk, List, ℕ};
+ghost use Rattle.std.specs.Prelude.{◌≡◌, ◌⊎◌, ◌++◌, IfErr, IfSome, OnErr, OnOk, List, ℕ};
 ghost use Rattle.std.specs.Io.KnownBytes.{Appends};
 ghost use Rattle.ledger.specs.LedgerText.{IsLedgerOf, ReadsIn};
 ghost use Rattle.cmd_ledgers.specs.Retry.{AtSomeTime};
-ghost use Rattle.cmd_parts.specs.Settle.{EndsLedgerAt, EndsWhole, SettlesLedger, SettlesWhole, settled_text};
+ghost use Rattle.cmd_ledgers.specs.GoingOn.{LeavesLedger, MayBeCut, kept_part};
+ghost use Rattle.cmd_options.specs.Ends.{PrintsNothing};
+ghost use Rattle.cmd_parts.specs.Settle.{SettlesLedger, SettlesWhole, settled_text};
+ghost use Rattle.cmd_parts.specs.Settling.{ComesFirst, LeavesSettled};
 
 use crate::settling::settle_board;
 use cert::Decider;
@@ -30,10 +33,9 @@ pub fn settle_ledger<F: Read + Drop, L: LedgerOut, D: Decider, P: Progress, W: W
 ) -> Result<(), Ended>
     ensures settles { OnOk result (SettlesLedger (AtSomeTime D D.answers) (F.remaining held.reader) held.length
         (L.text ledger.old) (L.text ledger.new) (W.contents answers.old) (W.contents answers.new)) }
-    ensures ended { IfErr result (λ e. EndsLedgerAt (AtSomeTime D D.answers)
-        (L.failures ledger.old ≢ L.failures ledger.new) e
-        (F.remaining held.reader) held.length (L.text ledger.old) (L.text ledger.new) (W.contents answers.old)
-        (W.contents answers.new)) }
+    ensures silent { IfErr result (λ e. PrintsNothing e (W.contents answers.old) (W.contents answers.new)) }
+    ensures leaves { OnErr result (LeavesLedger (LeavesSettled (AtSomeTime D D.answers) ComesFirst)
+        (F.remaining held.reader) held.length (L.text ledger.old) (L.text ledger.new)) }
 {
     let (mut board, left) = load_held(alloc, held)?;
     settle_loaded(alloc, &mut board, &left, ledger, decider, progress, answers)
@@ -55,9 +57,10 @@ fn settle_loaded<L: LedgerOut, D: Decider, P: Progress, W: Write>(
     ensures step { OnOk result (IfSome (L.text ledger.old)
         (λ text. ReadsIn board.old.format board.old.root text board.old.records left.now)
         → IfSome (L.text ledger.new) (IsLedgerOf board.new)) }
-    ensures ended { IfErr result (λ e. EndsWhole (AtSomeTime D D.answers)
-        (L.failures ledger.old ≢ L.failures ledger.new) e board.old left.now (L.text ledger.old) (L.text ledger.new)
-        (W.contents answers.old) (W.contents answers.new)) }
+    ensures silent { IfErr result (λ e. PrintsNothing e (W.contents answers.old) (W.contents answers.new)) }
+    ensures leaves { OnErr result (MayBeCut left.now (L.text ledger.old) (L.text ledger.new)
+        ⊎ LeavesSettled (AtSomeTime D D.answers) ComesFirst board.old (kept_part left.now (L.text ledger.old)) board.new
+        (L.text ledger.new)) }
 {
     cut_off(left, ledger)?;
     let count = settle_board(alloc, board, decider, ledger, progress)?;

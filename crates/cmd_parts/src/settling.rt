@@ -1,5 +1,5 @@
 // Open tables are settled, and their records' lines appended to the ledger.
-ghost use Rattle.std.specs.Prelude.{◌≡◌, ◌≢◌, ◌≤◌, ◌<◌, ◌+◌, ◌^◌, ◌++◌, IfOk, IfErr, IfSome, IfNone, OnOk, OnErr, Err, filter, length};
+ghost use Rattle.std.specs.Prelude.{◌≡◌, ◌≤◌, ◌<◌, ◌+◌, ◌^◌, ◌++◌, IfOk, IfSome, IfNone, OnOk, OnErr, filter, length};
 ghost use Rattle.machine_text.specs.Packed.{Packed};
 ghost use Rattle.cert.specs.Certified.{IsShownBy};
 ghost use Rattle.cert.specs.Kinds.{recorded};
@@ -7,8 +7,8 @@ ghost use Rattle.ledger.specs.Contents.{IsOpenOn};
 ghost use Rattle.ledger.specs.Held.{IsFit};
 ghost use Rattle.ledger.specs.Tally.{AreAll};
 ghost use Rattle.wire.specs.Device.{IsBegun, grown};
-ghost use Rattle.cmd_ledgers.specs.Retry.{AtSomeTime, CountsFailures, StaysInStep, gained};
-ghost use Rattle.cmd_parts.specs.Settling.{ComesFirst, EndsAtOne, EndsSettling, IsOpenBelow, SettlesMany, SettlesOne, filled_count, with_last};
+ghost use Rattle.cmd_ledgers.specs.Retry.{AtSomeTime, StaysInStep, gained};
+ghost use Rattle.cmd_parts.specs.Settling.{ComesFirst, IsOpenBelow, LeavesSettled, MayTearLine, SettlesMany, SettlesOne, filled_count, with_last};
 ghost use Rattle.cmd_parts.specs.inside.{is_below};
 
 use cert::{Decided, Decider, Judged, Record};
@@ -34,9 +34,8 @@ pub fn settle_board<L: LedgerOut, D: Decider, P: Progress>(
         board.new (L.text ledger.new)) }
     ensures all { OnOk result ((t : Packed) → IsOpenOn board.new t → ⊥) }
     ensures step { OnOk result (StaysInStep board.old (L.text ledger.old) board.new (L.text ledger.new)) }
-    ensures ended { IfErr result (λ e. EndsSettling (AtSomeTime D D.answers) ComesFirst e board.old (L.text ledger.old)
+    ensures leaves { OnErr result (LeavesSettled (AtSomeTime D D.answers) ComesFirst board.old (L.text ledger.old)
         board.new (L.text ledger.new)) }
-    ensures counted { CountsFailures result (L.failures ledger.old) (L.failures ledger.new) }
 {
     let before = record_count(board);
     while let Some(t) = first_open(board) {
@@ -64,9 +63,8 @@ pub fn settle_below<L: LedgerOut, D: Decider, P: Progress>(
         (L.text ledger.old) board.new (L.text ledger.new)) }
     ensures all { OnOk result ((t : Packed) → IsOpenOn board.new t → limit ≤ filled_count t) }
     ensures step { OnOk result (StaysInStep board.old (L.text ledger.old) board.new (L.text ledger.new)) }
-    ensures ended { IfErr result (λ e. EndsSettling (AtSomeTime D D.answers) (IsOpenBelow limit) e board.old
+    ensures leaves { OnErr result (LeavesSettled (AtSomeTime D D.answers) (IsOpenBelow limit) board.old
         (L.text ledger.old) board.new (L.text ledger.new)) }
-    ensures counted { CountsFailures result (L.failures ledger.old) (L.failures ledger.new) }
 {
     let before = record_count(board);
     let mut due = open_below(alloc, board, limit)?;
@@ -93,9 +91,8 @@ fn settle_all<L: LedgerOut, D: Decider, P: Progress>(
     ensures records { OnOk result (length board.new.records ≡ length board.old.records + length due.now) }
     ensures small { OnOk result (0 < length due.now → length board.new.records < 2 ^ 64) }
     ensures step { OnOk result (StaysInStep board.old (L.text ledger.old) board.new (L.text ledger.new)) }
-    ensures ended { IfErr result (λ e. EndsSettling (AtSomeTime D D.answers) (IsOpenBelow limit) e board.old
+    ensures leaves { OnErr result (LeavesSettled (AtSomeTime D D.answers) (IsOpenBelow limit) board.old
         (L.text ledger.old) board.new (L.text ledger.new)) }
-    ensures counted { CountsFailures result (L.failures ledger.old) (L.failures ledger.new) }
 {
     for t in due {
         settle(alloc, board, decider, t, ledger)?;
@@ -164,9 +161,8 @@ fn settle<L: LedgerOut, D: Decider>(
     ensures ok { OnOk result (SettlesOne (AtSomeTime D D.answers) (λ b q. q ≡ t.now) board.old (L.text ledger.old)
         board.new (L.text ledger.new)) }
     ensures step { OnOk result (StaysInStep board.old (L.text ledger.old) board.new (L.text ledger.new)) }
-    ensures ended { IfErr result (λ e. EndsAtOne (AtSomeTime D D.answers) (λ b q. q ≡ t.now) e board.old
-        (L.text ledger.old) board.new (L.text ledger.new)) }
-    ensures counted { CountsFailures result (L.failures ledger.old) (L.failures ledger.new) }
+    ensures leaves { OnErr result (MayTearLine (AtSomeTime D D.answers) (λ b q. q ≡ t.now) board.old (L.text ledger.old)
+        board.new (L.text ledger.new)) }
 {
     // The proof needs that it is a board.
     let _ = board.root();
@@ -203,10 +199,8 @@ fn take(board: &mut Board, r: &Record, judged: Judged, line: &mut Vec<u8>) -> Re
 
 // Appends a line to a ledger.
 pub(crate) fn append_line<L: LedgerOut>(ledger: &mut L, line: &[u8]) -> Result<(), Ended>
-    ensures ok { OnOk result ((L.text ledger.new ≡ grown (L.text ledger.old) line.now)
-        × (L.failures ledger.new ≡ L.failures ledger.old)) }
-    ensures err { IfErr result (λ e. (e ≡ Ended.Ledger) × (L.failures ledger.old ≢ L.failures ledger.new)
-        × IsBegun (L.text ledger.old) line.now (L.text ledger.new)) }
+    ensures ok { OnOk result (L.text ledger.new ≡ grown (L.text ledger.old) line.now) }
+    ensures err { OnErr result (IsBegun (L.text ledger.old) line.now (L.text ledger.new)) }
 {
     match append_all(ledger, line) {
         Ok(()) => Ok(()),

@@ -1,5 +1,5 @@
 // `bb split`: a trunk, and a ledger for each table that it leaves open.
-ghost use Rattle.std.specs.Prelude.{◌≡◌, ◌⊎◌, ◌≤◌, ◌++◌, IfErr, IfOk, List, ℕ, OnOk, Option, Result, codes};
+ghost use Rattle.std.specs.Prelude.{◌≡◌, ◌≤◌, ◌++◌, IfErr, IfOk, List, OnOk, Result, codes};
 ghost use Rattle.std.specs.Io.KnownBytes.{Appends};
 ghost use Rattle.machine_text.specs.Limits.{state_limit};
 ghost use Rattle.machine_text.specs.Packed.{Packed, empty_table};
@@ -8,7 +8,7 @@ ghost use Rattle.ledger.specs.Tally.{AreAll, IsTally};
 ghost use Rattle.ledger.specs.declared.tally.Tally.{Tally as Counted};
 ghost use Rattle.cmd_options.specs.declared.outcome.Outcome.{Outcome as Outcomes};
 ghost use Rattle.cmd_options.specs.declared.ended.Ended.{Ended as Ends};
-ghost use Rattle.cmd_options.specs.Ends.{EndsTold};
+ghost use Rattle.cmd_options.specs.Ends.{EndsTold, PrintsNothing};
 ghost use Rattle.cmd_ledgers.specs.Retry.{AtSomeTime};
 ghost use Rattle.files.specs.Paths.{IsToldStill};
 ghost use Rattle.cmd_parts.specs.AtPaths.{AreBegunAt, GrowsAt, IsCreated, SplitsAt};
@@ -131,7 +131,7 @@ pub fn split_off<H: Files, W: Write>(
         × AreBegunAt (H.tells_same host.old) folder.now roots (H.holds host.old) (H.holds host.new)) }
     ensures told { OnOk result ((tally : Counted) × IsTally trunk.now.root trunk.now.records tally
         × Appends (W.contents answers.old) (W.contents answers.new) (split_text tally)) }
-    ensures err { IfErr result (λ e. (W.contents answers.new ≡ W.contents answers.old) ⊎ (e ≡ Ended.Stream)) }
+    ensures err { IfErr result (λ e. PrintsNothing e (W.contents answers.old) (W.contents answers.new)) }
 {
     begin_parts(alloc, trunk, folder, host)?;
     let mut told = Vec::new(alloc);

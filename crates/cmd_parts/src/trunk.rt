@@ -1,16 +1,16 @@
 // The trunk of a tree, which is begun or gone on with.
-ghost use Rattle.std.specs.Prelude.{◌≡◌, ◌≢◌, ◌≤◌, ◌^◌, ◌<◌, ℕ, All, List, [], Contains, Err, IfErr, IfOk, IfSome, Ok, OnErr, OnOk, false, length};
+ghost use Rattle.std.specs.Prelude.{◌≡◌, ◌⊎◌, ◌≤◌, ℕ, All, List, IfOk, IfSome, Ok, OnErr, OnOk, false, length};
 ghost use Rattle.machine_text.specs.Limits.{state_limit};
 ghost use Rattle.machine_text.specs.Packed.{Packed, empty_table};
 ghost use Rattle.ledger.specs.Contents.{IsOpenOn};
 ghost use Rattle.ledger.specs.LedgerText.{IsLedgerOf, LoadGives};
 ghost use Rattle.ledger.specs.Loading.{StandsAfter};
-ghost use Rattle.ledger.specs.declared.faults.LoadFault.{LoadFault};
-ghost use Rattle.cmd_ledgers.specs.Faults.{ended_by_load};
 ghost use Rattle.cmd_ledgers.specs.Reading.{AreFirstBytes};
 ghost use Rattle.cmd_ledgers.specs.Retry.{AtSomeTime};
 ghost use Rattle.cmd_parts.specs.Settling.{IsOpenBelow, SettlesMany, filled_count};
-ghost use Rattle.cmd_parts.specs.Split.{EndsBeginning, EndsGrowing, EndsLooking, EndsTrunk, GrowsTrunk, IsNoTrunk, StopsAt, begun_trunk, due_header, kept_size};
+ghost use Rattle.cmd_parts.specs.Split.{GrowsTrunk, LeavesGrown, LeavesTrunk, begun_trunk, due_header, kept_size};
+ghost use Rattle.wire.specs.Device.{IsBegun};
+ghost use Rattle.cmd_ledgers.specs.GoingOn.{kept_part};
 
 use crate::folder::Folder;
 use crate::settling::{append_line, open_below, settle_below};
@@ -46,8 +46,7 @@ pub fn grow_trunk<F: Read + Drop, G: Folder, L: LedgerOut, D: Decider, P: Progre
         (F.remaining held.reader) held.length (L.text ledger.old) board (L.text ledger.new)) }
     ensures root { IfOk result (λ board. board.root ≡ empty_table n) }
     ensures all { IfOk result (λ board. (t : Packed) → IsOpenOn board t → limit ≤ filled_count t) }
-    ensures ended { IfErr result (λ e. EndsTrunk (G.sees folder.now) (AtSomeTime D D.answers)
-        (L.failures ledger.old ≢ L.failures ledger.new) n limit e
+    ensures leaves { OnErr result (LeavesTrunk (λ t. G.sees folder.now t (Ok false)) (AtSomeTime D D.answers) n limit
         (F.remaining held.reader) held.length (L.text ledger.old) (L.text ledger.new)) }
 {
     let (mut board, left, bytes) = load_tree(alloc, n, &mut held.reader, held.length)?;
@@ -67,9 +66,8 @@ fn load_tree<R: Read>(
     limit: u64,
 ) -> Result<(Board, Left, u64), Ended>
     requires { (1 ≤ n) × (n ≤ state_limit) }
-    ensures ok { IfOk result (λ l. (text : List ℕ) × AreFirstBytes (R.remaining from.old) limit text
+    ensures { IfOk result (λ l. (text : List ℕ) × AreFirstBytes (R.remaining from.old) limit text
         × (l.2 ≡ length text) × LoadGives (empty_table n) text (Ok (l.0, l.1))) }
-    ensures err { IfErr result (IsNoTrunk n (R.remaining from.old) limit) }
 {
     rado_of_tables();
     let mut loader = Loader::new(alloc, root(n));
@@ -82,10 +80,8 @@ fn load_tree<R: Read>(
 
 // The board of what a loader was fed.
 fn finished(loader: Loader) -> Result<(Board, Left, u64), Ended>
-    ensures ok { (text : List ℕ) → StandsAfter loader text
+    ensures { (text : List ℕ) → StandsAfter loader text
         → IfOk result (λ l. (l.2 ≡ length text) × LoadGives loader.root text (Ok (l.0, l.1))) }
-    ensures err { (text : List ℕ) → StandsAfter loader text
-        → IfErr result (λ e. (fault : LoadFault) × LoadGives loader.root text (Err fault) × (e ≡ ended_by_load fault)) }
 {
     let bytes = loader.bytes();
     match loader.finish() {
@@ -101,8 +97,7 @@ fn refuse_parts<G: Folder>(
     limit: u64,
     folder: &G,
 ) -> Result<(), Ended>
-    ensures ok { OnOk result ((t : Packed) → IsOpenBelow limit board.now t → G.sees folder.now t (Ok false)) }
-    ensures err { IfErr result (EndsLooking (G.sees folder.now) limit board.now) }
+    ensures { OnOk result ((t : Packed) → IsOpenBelow limit board.now t → G.sees folder.now t (Ok false)) }
 {
     let due = open_below(alloc, board, limit)?;
     refuse_parts_of(&due, folder)
@@ -110,8 +105,7 @@ fn refuse_parts<G: Folder>(
 
 // Refuses where the folder has a part of one of these tables.
 fn refuse_parts_of<G: Folder>(tables: &[Table], folder: &G) -> Result<(), Ended>
-    ensures ok { OnOk result (All (λ t. G.sees folder.now t (Ok false)) tables.now) }
-    ensures err { IfErr result (λ e. (t : Packed) × Contains tables.now t × StopsAt (G.sees folder.now) t e) }
+    ensures { OnOk result (All (λ t. G.sees folder.now t (Ok false)) tables.now) }
 {
     for t in tables {
         if folder.has(t)? {
@@ -137,9 +131,8 @@ fn grow<L: LedgerOut, D: Decider, P: Progress>(
     ensures all { OnOk result ((t : Packed) → IsOpenOn board.new t → limit ≤ filled_count t) }
     ensures step { OnOk result (IfSome (begun_trunk board.old.root bytes left.now (L.text ledger.old))
         (IsLedgerOf board.old) → IfSome (L.text ledger.new) (IsLedgerOf board.new)) }
-    ensures ended { IfErr result (λ e. EndsGrowing (AtSomeTime D D.answers)
-        (L.failures ledger.old ≢ L.failures ledger.new) limit e board.old bytes left.now (L.text ledger.old)
-        (L.text ledger.new)) }
+    ensures leaves { OnErr result (LeavesGrown (AtSomeTime D D.answers) limit board.old bytes left.now
+        (L.text ledger.old) (L.text ledger.new)) }
 {
     begin_trunk(alloc, board.root(), left, bytes, ledger)?;
     settle_below(alloc, board, limit, decider, ledger, progress)?;
@@ -154,10 +147,10 @@ fn begin_trunk<L: LedgerOut>(
     bytes: u64,
     ledger: &mut L,
 ) -> Result<(), Ended>
-    ensures ok { OnOk result ((L.text ledger.new ≡ begun_trunk root.now bytes left.now (L.text ledger.old))
-        × (L.failures ledger.new ≡ L.failures ledger.old)) }
-    ensures err { IfErr result (λ e. EndsBeginning (L.failures ledger.old ≢ L.failures ledger.new) e root.now bytes
-        left.now (L.text ledger.old) (L.text ledger.new)) }
+    ensures ok { OnOk result (L.text ledger.new ≡ begun_trunk root.now bytes left.now (L.text ledger.old)) }
+    ensures err { OnErr result ((L.text ledger.new ≡ L.text ledger.old)
+        ⊎ IsBegun (kept_part left.now (L.text ledger.old)) (due_header root.now (kept_size bytes left.now))
+        (L.text ledger.new)) }
 {
     let mut header = Vec::new(alloc);
     if kept_size(left, bytes) == 0 {

@@ -1,5 +1,3 @@
 pub mod Paths
-pub mod Links
 pub mod Opened
 pub mod Written
-pub mod Memory

@@ -28,9 +28,7 @@ pub trait DiskFile {
 
 /// The calls of a file system, as far as ledgers and pictures need them.
 pub trait Disk {
-    ghost use Rattle.std.specs.Prelude.{◌≡◌, Bool, ℕ, List, Option, Result, String, IfOk};
-    ghost use Rattle.std.specs.Global.{Global};
-    ghost use Rattle.std.specs.declared.io.Error.{Error};
+    ghost use Rattle.std.specs.Prelude.{◌≡◌, Bool, ℕ, List, Option, IfOk};
     ghost use Rattle.files.specs.Written.{no_bytes};
 
     /// What a ledger at a path holds at first, where that is known.
@@ -41,9 +39,6 @@ pub trait Disk {
 
     /// What may be told of two paths: whether they lead to one file.
     ghost same: { Self → List ℕ → List ℕ → Bool → Type 0 } = { λ disk one other told. Unit {0} };
-
-    /// What may come of following the symbolic links of a path.
-    ghost ends: { Self → List ℕ → Result (String Global) Error → Type 0 } = { λ disk path came. Unit {0} };
 
     /// What a file is read by.
     type Reader: Read + Drop;
@@ -66,8 +61,7 @@ pub trait Disk {
         ensures { same self.now one.now other.now result };
 
     /// The path to which the symbolic links of a path lead; nothing need stand there.
-    fn end_of(&self, path: &str) -> io::Result<String>
-        ensures { ends self.now path.now result };
+    fn end_of(&self, path: &str) -> io::Result<String>;
 
     /// Whether another file may be put in the place of what stands at a path: there is a plain file, or nothing.
     fn is_replaceable(&self, path: &str) -> bool;

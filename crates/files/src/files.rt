@@ -1,5 +1,5 @@
 // Where the files stand that a command line names.
-ghost use Rattle.std.specs.Prelude.{◌≡◌, ◌⊎◌, Err, IfErr, IfOk, None, Ok, Some};
+ghost use Rattle.std.specs.Prelude.{IfOk, Ok, Some};
 
 use crate::opened::Opened;
 use cmd_options::{Ended, LedgerFile};
@@ -14,7 +14,6 @@ use wire::LedgerOut;
 pub trait Files {
     ghost use Rattle.std.specs.Prelude.{◌≡◌, Bool, List, ℕ, Option, Result, IfOk, OnOk, OnErr, IfErr};
     ghost use Rattle.std.specs.IoError.{error_kind};
-    ghost use Rattle.std.specs.declared.io.Error.{Error};
     ghost use Rattle.std.specs.declared.io.ErrorKind.TheVariants.{NotFound};
     ghost use Rattle.cmd_options.specs.declared.ended.Ended.{Ended};
     ghost use Rattle.files.specs.Paths.{Known, IsBlank, IsKept, IsKeptBut, IsLedgerAt, IsMissing, IsOpenedOn, IsPut, IsToldStill};
@@ -24,12 +23,6 @@ pub trait Files {
 
     /// What may be told of two paths: whether they are those of one file.
     ghost tells_same: { Self → List ℕ → List ℕ → Bool → Type 0 };
-
-    /// What may come of asking whether a symbolic link at a path leads to a name.
-    ghost leads: { Self → List ℕ → List ℕ → Result Bool Error → Type 0 };
-
-    /// Whether a ledger was opened at a path that isn't closed yet.
-    ghost opened: { Self → List ℕ → Type 0 };
 
     /// What may come of locking the ledger at a path: it is locked by this, or another process has it locked; or it
     /// can't be locked, which ends a command so.
@@ -56,8 +49,7 @@ pub trait Files {
         ensures { tells_same self.now one.now other.now result };
 
     /// Whether a symbolic link at a path leads to a name. Errors: links that can't be followed to an end, refused memory.
-    fn leads_to(&self, path: &str, name: &str) -> io::Result<bool>
-        ensures { leads self.now path.now name.now result };
+    fn leads_to(&self, path: &str, name: &str) -> io::Result<bool>;
 
     /// A ledger that is cut and appended to where it stands.
     type Ledger: LedgerOut + Drop;
@@ -65,7 +57,6 @@ pub trait Files {
     /// Opens the ledger at a path, which is created where it isn't there, once it is written to.
     fn ledger(&mut self, file: &LedgerFile<'_>) -> io::Result<Self::Ledger>
         ensures ok { IfOk result (λ l. IsLedgerAt (holds self.old file.now.path.now) (Self.Ledger.text l)) }
-        ensures opened { OnOk result (opened self.new file.now.path.now) }
         ensures others { OnOk result (IsKeptBut (tells_same self.old) file.now.path.now (holds self.old)
             (holds self.new)) }
         ensures tells { IsToldStill (tells_same self.old) (tells_same self.new) }
@@ -73,7 +64,6 @@ pub trait Files {
 
     /// Lets the ledger go that was opened at a path.
     fn close(&mut self, path: &str, ledger: Self::Ledger)
-        requires { opened self.old path.now }
         ensures tells { IsToldStill (tells_same self.old) (tells_same self.new) }
         ensures put { IsPut (tells_same self.old) path.now (Self.Ledger.text ledger) (holds self.old)
             (holds self.new) };
@@ -124,8 +114,7 @@ pub trait Files {
 
 /// Locks a ledger for writing; `Locked` where another process has it locked.
 pub fn lock_ledger<H: Files>(host: &H, path: &str) -> Result<H::Lock, Ended>
-    ensures ok { IfOk result (λ lock. H.locks path.now (Ok (Some lock))) }
-    ensures err { IfErr result (λ e. ((e ≡ Ended.Locked) × H.locks path.now (Ok None)) ⊎ H.locks path.now (Err e)) }
+    ensures { IfOk result (λ lock. H.locks path.now (Ok (Some lock))) }
 {
     match host.lock(path)? {
         Some(lock) => Ok(lock),

@@ -1,9 +1,8 @@
 //! Where the files stand that a command line names.
 //!
-//! `Files` is what commands see of them. `OnDisk` is that over the calls of a file system, `MemFiles` over files in memory.
-//! `specs/Paths` has what is known to stand at paths and how that changes, `specs/Opened` what is read of it,
-//! `specs/Written` what a ledger holds that is opened once it is written, `specs/Links` where a symbolic link leads.
-//! `specs/Memory` is for files in memory alone.
+//! `Files` is what commands see of them. `OnDisk` is that over the calls of a file system. `specs/Paths` has what is known
+//! to stand at paths and how that changes, `specs/Opened` what is read of it, `specs/Written` what a ledger holds that is
+//! opened once it is written.
 #![tactic(auto)]
 
 mod disk;
@@ -12,8 +11,6 @@ mod disk_made;
 mod file_ledger;
 mod files;
 mod keeping;
-mod mem_text;
-mod memory;
 mod on_disk;
 mod opened;
 mod place;
@@ -26,8 +23,6 @@ pub use disk_ledger::DiskLedger;
 pub use disk_made::DiskMade;
 pub use file_ledger::FileLedger;
 pub use files::{Files, lock_ledger};
-pub use mem_text::MemText;
-pub use memory::MemFiles;
 pub use on_disk::OnDisk;
 pub use opened::{Held, Opened, held_at};
 pub use place::Place;

@@ -26,16 +26,10 @@ impl<'a, D: Disk> OnDisk<'a, D> {
 impl<'a, D: Disk> Files for OnDisk<'a, D> {
     ghost use Rattle.std.specs.Prelude.{⊤};
     ghost use Rattle.files.specs.Paths.{Unknown};
-    ghost use Rattle.files.specs.Links.{LeadsBy};
 
     ghost holds = { λ files path. Unknown };
 
     ghost tells_same = { λ files. D.same files.disk.now };
-
-    ghost leads = { λ files path name. LeadsBy (D.ends files.disk.now path) (λ end. D.same files.disk.now end name)
-        path };
-
-    ghost opened = { λ files path. ⊤ };
 
     ghost locks = { λ path locked. ⊤ };
 

@@ -1,5 +1,5 @@
 // Ledgers that are written; one that fails ends the command.
-ghost use Rattle.std.specs.Prelude.{◌≡◌, ◌⊎◌, IfErr, IfOk, OnErr, OnOk};
+ghost use Rattle.std.specs.Prelude.{IfOk, OnErr, OnOk};
 ghost use Rattle.files.specs.Paths.{IsBlank, IsKept, IsKeptBut, IsLedgerAt, IsPut, IsToldStill};
 
 use crate::files::Files;
@@ -8,11 +8,9 @@ use cmd_options::{Ended, LedgerFile, ended_by};
 /// Opens a ledger to go on with it, as `Files::ledger` does.
 pub fn ledger_at<H: Files>(host: &mut H, file: &LedgerFile<'_>) -> Result<H::Ledger, Ended>
     ensures ok { IfOk result (λ l. IsLedgerAt (H.holds host.old file.now.path.now) (H.Ledger.text l)) }
-    ensures opened { OnOk result (H.opened host.new file.now.path.now) }
     ensures others { IsKeptBut (H.tells_same host.old) file.now.path.now (H.holds host.old) (H.holds host.new) }
     ensures tells { IsToldStill (H.tells_same host.old) (H.tells_same host.new) }
-    ensures err { IfErr result (λ e. ((e ≡ Ended.NoMemory) ⊎ (e ≡ Ended.Ledger))
-        × IsKept (H.holds host.old) (H.holds host.new)) }
+    ensures err { OnErr result (IsKept (H.holds host.old) (H.holds host.new)) }
 {
     match host.ledger(file) {
         Ok(ledger) => Ok(ledger),
@@ -22,8 +20,7 @@ pub fn ledger_at<H: Files>(host: &mut H, file: &LedgerFile<'_>) -> Result<H::Led
 
 /// Begins a ledger that is written anew, to be put at a path once it is on the disk, while those at these paths are read.
 pub fn made_for<H: Files>(host: &H, out: &str, read: &[&str]) -> Result<H::Made, Ended>
-    ensures ok { IfOk result (λ made. IsBlank (H.Made.text made)) }
-    ensures err { IfErr result (λ e. (e ≡ Ended.NoMemory) ⊎ (e ≡ Ended.Ledger)) }
+    ensures { IfOk result (λ made. IsBlank (H.Made.text made)) }
 {
     match host.make(&LedgerFile::on_disk(out), read) {
         Ok(made) => Ok(made),
@@ -36,8 +33,7 @@ pub fn put_at<H: Files>(host: &mut H, made: H::Made, out: &str) -> Result<(), En
     ensures ok { OnOk result (IsPut (H.tells_same host.old) out.now (H.Made.text made) (H.holds host.old)
         (H.holds host.new)) }
     ensures tells { IsToldStill (H.tells_same host.old) (H.tells_same host.new) }
-    ensures err { IfErr result (λ e. ((e ≡ Ended.NoMemory) ⊎ (e ≡ Ended.Ledger))
-        × IsKept (H.holds host.old) (H.holds host.new)) }
+    ensures err { OnErr result (IsKept (H.holds host.old) (H.holds host.new)) }
 {
     match host.put(made, out) {
         Ok(()) => Ok(()),

@@ -3,9 +3,9 @@ use Rattle.machine_text.specs.Packed.{IsTable}
 use Rattle.cmd_ledgers.proofs.Offered.{all_mended}
 use Rattle.cmd_ledgers.proofs.mending.mend_behind.Goals as goal
 
-pub returns-clause-ok : goal.returns-clause-ok
-returns-clause-ok g c =
-    let (same, empty, none) = c.in_ok-mender.ensures.ok in
-    let (more, are, (lines, are_lines, taken)) = c.in_ok-take_all.ensures.ok in
+pub returns : goal.returns
+returns g c =
+    let (same, empty, none) = c.in_ok-mender.ensures in
+    let (more, are, (lines, are_lines, taken)) = c.in_ok-take_all.ensures in
     let (at, mended) = all_mended c.args.root (subst IsTable same c.root.ensures.board.is_table) c.in_ok-mender.mender c.take_all.new.mender lines same empty none taken in
     (at, (more, are, (lines, are_lines, mended)))

@@ -5,8 +5,8 @@ use Rattle.cmd_lines.proofs.Taking.{nothing_taken}
 use Rattle.cmd_ledgers.specs.inside.Mending.{LineMends}
 use Rattle.cmd_ledgers.proofs.mending.take_all.Goals as goal
 
-pub returns-clause-ok : goal.returns-clause-ok
-returns-clause-ok g c =
+pub returns : goal.returns
+returns g c =
     let start = c.args.mender.now in
     let none = subst (λ begun. HasTakenLines LineMends start [] begun start) (sym c.new-lines.ensures) (nothing_taken LineMends start) in
     let first = c.in_ok-take.ensures.ok start [] none in

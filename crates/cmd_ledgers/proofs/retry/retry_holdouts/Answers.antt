@@ -11,17 +11,17 @@ use Rattle.cmd_ledgers.proofs.retry.retry_holdouts.Goals as goal
 pub loop-table-init : goal.loop-table-init
 loop-table-init g c =
     let all : AreAll (IsHoldout c.args.board.now.records) (into_iter_items c.into_iter-table-iterator.result) = search rules in
-    (search rules, search rules, λ s. s, refl, all_wait _ _ all, [], all, (refl, refl))
+    (search rules, search rules, λ s. s, all_wait _ _ all, [], all, (refl, refl))
 
 pub retry-requires : goal.retry-requires
 retry-requires g c =
     let is : into_iter_items c.loop-table.table-iterator ≡ c.in-Some.table ∷ into_iter_items c.next.new.self = search rules in
-    first_waits _ _ _ (subst (λ (ts : List Packed). AreWaiting c.loop-table.board.records ts) is c.loop-table.invariant.4)
+    first_waits _ _ _ (subst (λ (ts : List Packed). AreWaiting c.loop-table.board.records ts) is c.loop-table.invariant.3)
 
 pub loop-table-preserved : goal.loop-table-preserved
 loop-table-preserved g c =
     let is : into_iter_items c.loop-table.table-iterator ≡ c.in-Some.table ∷ into_iter_items c.next.new.self = search rules in
-    let (root, was, step, works, waits, tried, all, are) = c.loop-table.invariant in
+    let (root, was, step, waits, tried, all, are) = c.loop-table.invariant in
     let waiting = subst (λ (ts : List Packed). AreWaiting c.loop-table.board.records ts) is waits in
     let took = c.in_ok-retry.ensures.tried in
     let before = g.L.LedgerOut.text c.loop-table.ledger in
@@ -33,7 +33,6 @@ loop-table-preserved g c =
       c.retry.ensures.kept.root ∙ root,
       c.retry.ensures.kept.format ∙ was,
       λ s. c.in_ok-retry.ensures.kept.step (step s),
-      c.in_ok-retry.ensures.counted.works ∙ works,
       others_wait _ _ _ _ _ took.0 _ _ took.2 took.3 waiting,
       more,
       all_more,

@@ -1,7 +1,8 @@
-use Rattle.std.proofs.Common.{List, ℕ, Option, IfSome, sym, subst}
+use Rattle.std.proofs.Common.{List, ℕ, Option, IfSome, inl, inr, sym, subst}
+use Rattle.std.proofs.lemmas.Result.{err_from_is_err_and}
 use Rattle.ledger.specs.LedgerText.{IsLedgerOf}
-use Rattle.cmd_ledgers.specs.Retry.{AreRetried, AtSomeTime}
-use Rattle.cmd_ledgers.proofs.Reports.{if_ok}
+use Rattle.cmd_ledgers.specs.Retry.{AreRetried, AtSomeTime, LeavesRetried}
+use Rattle.cmd_ledgers.proofs.Reports.{if_ok, on_err}
 use Rattle.cmd_ledgers.proofs.Retrying.{cut_reads}
 use Rattle.cmd_ledgers.proofs.retry.retry_loaded.Goals as goal
 
@@ -11,7 +12,7 @@ returns-clause-retries g c =
     let old = c.args.board.now in
     let new = c.retry_holdouts.new.board in
     let after = g.L.LedgerOut.text c.retry_holdouts.new.ledger in
-    let cut = c.in_ok-cut_off.ensures.ok.0 in
+    let cut = c.in_ok-cut_off.ensures.ok in
     if_ok c.report_board.result (λ o reports. record {
       board = new;
       root = c.retry_holdouts.ensures.kept.root;
@@ -20,3 +21,21 @@ returns-clause-retries g c =
           (subst (λ (t : Option (List ℕ)). IfSome t (IsLedgerOf old)) (sym cut) (cut_reads old c.args.left.now (g.L.LedgerOut.text c.args.ledger.now) reads));
       reports = reports;
     }) c.report_board.ensures.ok
+
+pub returns-in_err-cut_off-clause-leaves : goal.returns-in_err-cut_off-clause-leaves
+returns-in_err-cut_off-clause-leaves g c =
+    let p = err_from_is_err_and c.from_residual.result c.from_residual.ensures.1 in
+    rw p.1 (inl c.in_err-cut_off.ensures.err)
+
+pub returns-in_err-retry_holdouts-clause-leaves : goal.returns-in_err-retry_holdouts-clause-leaves
+returns-in_err-retry_holdouts-clause-leaves g c =
+    let A = AtSomeTime _ g.D.Decider.answers in
+    let p = err_from_is_err_and c.from_residual-in_err-retry_holdouts.result c.from_residual-in_err-retry_holdouts.ensures.1 in
+    rw p.1 (inr (subst (λ (t : Option (List ℕ)). LeavesRetried A c.args.board.now t c.retry_holdouts.new.board (g.L.LedgerOut.text c.retry_holdouts.new.ledger)) c.in_ok-cut_off.ensures.ok
+    c.in_err-retry_holdouts.ensures.leaves))
+
+pub returns-clause-leaves : goal.returns-clause-leaves
+returns-clause-leaves g c =
+    let A = AtSomeTime _ g.D.Decider.answers in
+    on_err c.report_board.result (inr (inr (inr (subst (λ (t : Option (List ℕ)). AreRetried A c.args.board.now t c.retry_holdouts.new.board (g.L.LedgerOut.text c.retry_holdouts.new.ledger)) c.in_ok-cut_off.ensures.ok
+    c.in_ok-retry_holdouts.ensures.order))))

@@ -1,8 +1,8 @@
 use Rattle.std.proofs.Common.{Bool, List, ℕ, inr, ap, subst, ◌∙◌}
 use Rattle.cert.specs.Kinds.{recorded}
-use Rattle.ledger.proofs.StageLaws.{if_err}
 use Rattle.wire.specs.Device.{IsBegun, grown}
 use Rattle.cmd_ledgers.specs.Retry.{ResolvesOrStays}
+use Rattle.std.proofs.lemmas.Result.{on_err_weaker}
 use Rattle.cmd_ledgers.proofs.Reports.{on_ok}
 use Rattle.cmd_ledgers.proofs.Retrying.{stays_by, one_line, changes_settled, torn_line}
 use Rattle.cmd_ledgers.proofs.retry.take.Goals as goal
@@ -29,16 +29,15 @@ returns-clause-changes g c =
     on_ok c.append_to.result (λ kept. changes_settled old.format _ r old.records _ before _ taken.0.verdict taken.0 taken.1
     (one_line old.format r _ _ before _ taken.2 c.new-line.ensures.items (kept ∙ ap (grown before) c.deref.ensures.value))) c.append_to.ensures.ok
 
-pub returns-clause-ended : goal.returns-clause-ended
-returns-clause-ended g c =
+pub returns-clause-leaves : goal.returns-clause-leaves
+returns-clause-leaves g c =
     let old = c.args.board.now in
     let r = recorded c.args.r.now in
     let before = g.L.LedgerOut.text c.args.ledger.now in
     let after = g.L.LedgerOut.text c.append_to.new.ledger in
     let taken = subst (λ (b : Bool). ResolvesOrStays old.format r b old.records c.new-line.result.items c.gains.new.board.records c.gains.new.line.items) c.if-not-branch.false c.in_ok-gains.ensures.ok in
-    if_err c.append_to.result (λ e h. inr (
-      h.0,
+    on_err_weaker c.append_to.result (λ h. inr (
       taken.0,
       taken.1,
-      torn_line old.format r _ _ before after taken.2 c.new-line.ensures.items (subst (λ (l : List ℕ). IsBegun before l after) c.deref.ensures.value h.2),
-    )) c.append_to.ensures.err
+      torn_line old.format r _ _ before after taken.2 c.new-line.ensures.items (subst (λ (l : List ℕ). IsBegun before l after) c.deref.ensures.value h),
+    )) c.append_to.ensures.begun

@@ -20,7 +20,7 @@ loop-table-preserved g c =
     let before = c.loop-table.invariant in
     let line = text_of c.in-Some.table ++ 10 ∷ [] in (
       before.0 ++ line,
-      appends_both _ _ _ before.0 line before.1 c.in_ok-print_line.ensures.ok,
+      appends_both _ _ _ before.0 line before.1 c.in_ok-print_line.ensures,
       append_assoc before.0 line (joined (map text_of (into_iter_items c.next.new.self)))
           ∙ (ap (λ (l : List ℕ). before.0 ++ l) (append_assoc (text_of c.in-Some.table) (10 ∷ []) (joined (map text_of (into_iter_items c.next.new.self))))
           ∙ (ap (λ (ts : List Packed). before.0 ++ joined (map text_of ts)) (sym c.in-Some.ensures.steps.0) ∙ before.2)),

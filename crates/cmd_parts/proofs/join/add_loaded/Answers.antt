@@ -25,4 +25,4 @@ pub returns-clause-ok : goal.returns-clause-ok
 unfolding same_table
 returns-clause-ok g c =
     let same : c.args.part.now.root ≡ c.args.root.now = sym c.root.ensures.root ∙ no_difference c.root.result.now c.args.root.now c.ne.result c.ne.ensures c.if-ne.false in
-    met_loaded (g.C.Collector.counts c.args.collector.now) (g.C.Collector.counts c.add.new.collector) c.says_left.result _ _ _ _ _ _ c.args.part.now c.args.left.now c.args.path.now c.args.root.now same c.in_ok-add.ensures.ok c.says_left.ensures.ok
+    met_loaded (g.C.Collector.counts c.args.collector.now) (g.C.Collector.counts c.add.new.collector) c.says_left.result _ _ _ _ _ _ c.args.part.now c.args.left.now c.args.path.now c.args.root.now same c.in_ok-add.ensures c.says_left.ensures.ok

@@ -1,4 +1,4 @@
-use Rattle.std.proofs.Common.{◌≡◌, ◌+◌, ◌++◌, ◌∷◌, [], ◌∙◌, false, true, List, ap, sym, subst, take}
+use Rattle.std.proofs.Common.{◌≡◌, ◌⊎◌, ◌+◌, ◌++◌, ◌∷◌, [], ◌∙◌, false, true, List, ap, sym, subst, take}
 use Rattle.std.proofs.lemmas.List.{take-append-drop, take_more}
 use Rattle.std.proofs.lemmas.Result.{err_from_is_err_and}
 use Rattle.std.proofs.lemmas.List.Elements.{All-contains_itself}
@@ -7,8 +7,9 @@ use Rattle.machine_text.specs.Packed.{Packed}
 use Rattle.ledger.specs.Contents.{Contents, IsOpenOn}
 use Rattle.ledger.proofs.TextOrder.{all_apart}
 use Rattle.cmd_options.specs.declared.ended.Ended.{Ended}
-use Rattle.cmd_parts.specs.inside.{AreAdded, EndsAdding}
-use Rattle.cmd_parts.proofs.JoinEnds.{ends_at_part}
+use Rattle.cmd_options.specs.declared.ended.Ended.TheVariants.{Stream}
+use Rattle.cmd_parts.specs.inside.{AreAdded, SaysMet}
+use Rattle.cmd_parts.proofs.JoinEnds.{met_before}
 use Rattle.cmd_parts.proofs.JoinedParts.{added_more, none_added, not_added}
 use Rattle.cmd_parts.proofs.join.add_parts.Goals as goal
 use Rattle.cmd_parts.proofs.join.add_parts.Goals.{then-not-branch, else-not-branch}
@@ -55,5 +56,5 @@ returns-in_err-join_part-clause-err g c =
     let roots = c.args.roots.now in
     let i = c.loop-root.root-index in
     let p = err_from_is_err_and c.from_residual.result c.from_residual.ensures.1 in
-    rw p.1 (subst (λ (e : Ended). EndsAdding Finds folder roots e (g.E.Write.contents c.args.faults.now) (g.E.Write.contents c.join_part.new.faults)) (sym p.2)
-    (ends_at_part Finds folder _ roots i c.loop-root.are_sound c.args.whole.now.trunk c.loop-root.whole _ _ _ _ _ (sym (take-append-drop i roots)) c.loop-root.invariant c.in_err-join_part.ensures.err))
+    rw p.1 (subst (λ (e : Ended). SaysMet Finds folder roots (g.E.Write.contents c.args.faults.now) (g.E.Write.contents c.join_part.new.faults) ⊎ (e ≡ Stream)) (sym p.2)
+    (met_before Finds folder _ roots i c.loop-root.are_sound c.args.whole.now.trunk c.loop-root.whole _ _ _ _ _ (sym (take-append-drop i roots)) c.loop-root.invariant c.in_err-join_part.ensures.err))

@@ -1,15 +1,12 @@
-use Rattle.std.proofs.Common.{rules, ◌≡◌, ◌∙◌, false, true, List, inl, inr, refl, sym, subst}
+use Rattle.std.proofs.Common.{rules, ◌≡◌, ◌∙◌, false, true, List, inl, inr, sym, subst}
 use Rattle.std.proofs.lemmas.Result.{err_from_is_err_and}
 use Rattle.std.specs.Prelude.{codes}
 use Rattle.machine_text.specs.Packed.{Packed}
 use Rattle.ledger.specs.Contents.{IsOpenOn}
 use Rattle.ledger.specs.Tally.{AreAll}
 use Rattle.cmd_parts.specs.Split.{path_within}
-use Rattle.cmd_options.specs.declared.ended.Ended.{Ended}
-use Rattle.cmd_options.specs.declared.ended.Ended.TheVariants.{NoMemory}
-use Rattle.cmd_parts.specs.Gather.{EndsGathering}
-use Rattle.cmd_parts.proofs.JoinedParts.{appends_nothing, gathered_so}
-use Rattle.cmd_parts.proofs.JoinEnds.{ends_behind, ends_trunk, none_met}
+use Rattle.cmd_parts.proofs.JoinedParts.{gathered_so}
+use Rattle.cmd_parts.proofs.JoinEnds.{none_met, warns_behind}
 use Rattle.cmd_parts.proofs.join.gather.Goals as goal
 use Rattle.cmd_parts.proofs.join.gather.Goals.{then-is_kept, else-is_kept}
 
@@ -28,18 +25,9 @@ returns-clause-ok g c =
       | else-is_kept w ↦ λ no. w.result-is ∙ no
     ] in
     gathered_so (g.S.PartLedgers.finds c.args.parts.now) c.args.folder.now c.deref.result.now c.deref-4.result.now trunk c.in_ok-whole.whole.trunk c.in_ok-trunk.left c.deref-5.result.now c.add_parts.new.whole
-    c.in_ok-is_kept.is_kept c.in_ok-are_sound.are_sound c.if-is_kept.result _ _ _ _ _ _ is same c.in_ok-trunk.ensures.ok
+    c.in_ok-is_kept.is_kept c.in_ok-are_sound.are_sound c.if-is_kept.result _ _ _ _ _ _ is same c.in_ok-trunk.ensures
     (subst (λ (l : List Packed). AreAll (IsOpenOn trunk) l) (sym roots) c.in_ok-roots.ensures)
     c.in_ok-is_kept.ensures.ok c.in_ok-begin.ensures.ok c.in_ok-begin.ensures.counts c.in_ok-whole.ensures.trunk c.in_ok-are_sound.ensures.ok all neither
-
-pub returns-in_err-trunk-clause-err : goal.returns-in_err-trunk-clause-err
-returns-in_err-trunk-clause-err g c =
-    let Finds = g.S.PartLedgers.finds c.args.parts.now in
-    let folder = c.args.folder.now in
-    let faults = g.E.Write.contents c.args.faults.now in
-    let is : c.deref.result.now ≡ path_within folder (codes "trunk") = search rules in
-    let p = err_from_is_err_and c.from_residual-in_err-trunk.result c.from_residual-in_err-trunk.ensures.1 in
-    rw p.1 (subst (λ (e : Ended). EndsGathering Finds folder e faults faults) (sym p.2) (ends_trunk Finds folder _ c.deref.result.now faults is c.in_err-trunk.ensures.err))
 
 pub returns-in_err-begin-clause-err : goal.returns-in_err-begin-clause-err
 returns-in_err-begin-clause-err g c =
@@ -51,9 +39,8 @@ returns-in_err-begin-clause-err g c =
     let is : c.deref.result.now ≡ path_within folder (codes "trunk") = search rules in
     let same : c.deref-4.result.now ≡ path_within folder (codes "trunk") = search rules in
     let p = err_from_is_err_and c.from_residual-in_err-begin.result c.from_residual-in_err-begin.ensures.1 in
-    rw p.1 (subst (λ (e : Ended). EndsGathering Finds folder e faults mid) (sym p.2)
-    (ends_behind Finds folder _ c.deref.result.now c.deref-4.result.now trunk c.in_ok-trunk.left c.in_ok-roots.roots.items faults mid mid is same c.in_ok-trunk.ensures.ok c.in_ok-roots.ensures
-    c.in_ok-is_kept.ensures.ok.1 (none_met Finds folder _ c.in_ok-roots.roots.items mid (appends_nothing mid) (inl (inr c.in_err-begin.ensures.err)))))
+    rw p.1 (inr (warns_behind Finds folder c.deref.result.now c.deref-4.result.now trunk c.in_ok-trunk.left c.in_ok-roots.roots.items faults mid mid is same c.in_ok-trunk.ensures c.in_ok-roots.ensures
+    c.in_ok-is_kept.ensures.ok.1 (none_met Finds folder c.in_ok-roots.roots.items mid)))
 
 pub returns-in_err-whole-clause-err : goal.returns-in_err-whole-clause-err
 returns-in_err-whole-clause-err g c =
@@ -65,9 +52,8 @@ returns-in_err-whole-clause-err g c =
     let is : c.deref.result.now ≡ path_within folder (codes "trunk") = search rules in
     let same : c.deref-4.result.now ≡ path_within folder (codes "trunk") = search rules in
     let p = err_from_is_err_and c.from_residual-in_err-whole.result c.from_residual-in_err-whole.ensures.1 in
-    rw p.1 (subst (λ (e : Ended). EndsGathering Finds folder e faults mid) (sym p.2)
-    (ends_behind Finds folder NoMemory c.deref.result.now c.deref-4.result.now trunk c.in_ok-trunk.left c.in_ok-roots.roots.items faults mid mid is same c.in_ok-trunk.ensures.ok c.in_ok-roots.ensures
-    c.in_ok-is_kept.ensures.ok.1 (none_met Finds folder NoMemory c.in_ok-roots.roots.items mid (appends_nothing mid) (inl (inl (inl refl))))))
+    rw p.1 (inr (warns_behind Finds folder c.deref.result.now c.deref-4.result.now trunk c.in_ok-trunk.left c.in_ok-roots.roots.items faults mid mid is same c.in_ok-trunk.ensures c.in_ok-roots.ensures
+    c.in_ok-is_kept.ensures.ok.1 (none_met Finds folder c.in_ok-roots.roots.items mid)))
 
 pub returns-in_err-are_sound-clause-err : goal.returns-in_err-are_sound-clause-err
 returns-in_err-are_sound-clause-err g c =
@@ -81,6 +67,8 @@ returns-in_err-are_sound-clause-err g c =
     let same : c.deref-4.result.now ≡ path_within folder (codes "trunk") = search rules in
     let roots : c.deref-5.result.now ≡ c.in_ok-roots.roots.items = search rules in
     let p = err_from_is_err_and c.from_residual-in_err-are_sound.result c.from_residual-in_err-are_sound.ensures.1 in
-    rw p.1 (subst (λ (e : Ended). EndsGathering Finds folder e faults new) (sym p.2)
-    (ends_behind Finds folder _ c.deref.result.now c.deref-4.result.now trunk c.in_ok-trunk.left c.deref-5.result.now faults mid new is same c.in_ok-trunk.ensures.ok
-    (subst (λ (l : List Packed). AreAll (IsOpenOn trunk) l) (sym roots) c.in_ok-roots.ensures) c.in_ok-is_kept.ensures.ok.1 c.in_err-are_sound.ensures.err))
+    rw p.1 (elim c.in_err-are_sound.ensures.err [
+      | inl more ↦ inr (warns_behind Finds folder c.deref.result.now c.deref-4.result.now trunk c.in_ok-trunk.left c.deref-5.result.now faults mid new is same c.in_ok-trunk.ensures
+          (subst (λ (l : List Packed). AreAll (IsOpenOn trunk) l) (sym roots) c.in_ok-roots.ensures) c.in_ok-is_kept.ensures.ok.1 more)
+      | inr stream ↦ inl (inr (p.2 ∙ stream))
+    ])

@@ -1,9 +1,6 @@
-use Rattle.std.proofs.Common.{sym, subst}
-use Rattle.std.proofs.lemmas.Result.{err_from_is_err_and}
+use Rattle.std.proofs.Common.{inr}
 use Rattle.ledger.proofs.StageLaws.{if_err}
-use Rattle.cmd_options.specs.declared.ended.Ended.{Ended}
-use Rattle.cmd_parts.specs.Join.{EndsTelling}
-use Rattle.cmd_parts.proofs.JoinEnds.{ends_gathered, ends_untold}
+use Rattle.cmd_parts.proofs.JoinEnds.{warns_all}
 use Rattle.cmd_parts.proofs.JoinedParts.{all_told}
 use Rattle.cmd_parts.proofs.join.join_parts.Goals as goal
 
@@ -12,23 +9,8 @@ returns-clause-tells g c = all_told (g.P.ReportForm.is_text c.args.form.now) (g.
     (g.W.Write.contents c.args.answers.now) (g.W.Write.contents c.tell_whole.new.answers) (g.E.Write.contents c.args.faults.now) (g.E.Write.contents c.gather.new.faults)
     c.in_ok-whole.whole c.in_ok-whole.is_sound c.tell_whole.result c.in_ok-whole.ensures.ok c.tell_whole.ensures.ok
 
-pub returns-in_err-whole-clause-ended : goal.returns-in_err-whole-clause-ended
-returns-in_err-whole-clause-ended g c =
-    let Finds = g.S.PartLedgers.finds c.args.parts.now in
-    let folder = c.args.folder.now in
-    let said = g.W.Write.contents c.args.answers.now in
-    let faults = g.E.Write.contents c.args.faults.now in
-    let new = g.E.Write.contents c.gather.new.faults in
-    let p = err_from_is_err_and c.from_residual.result c.from_residual.ensures.1 in
-    rw p.1 (subst (λ (e : Ended). EndsTelling Finds folder e said said faults new) (sym p.2) (ends_gathered Finds folder _ said faults new c.in_err-whole.ensures.err))
-
-pub returns-clause-ended : goal.returns-clause-ended
-returns-clause-ended g c =
-    let Finds = g.S.PartLedgers.finds c.args.parts.now in
-    let folder = c.args.folder.now in
-    let said = g.W.Write.contents c.args.answers.now in
-    let new_said = g.W.Write.contents c.tell_whole.new.answers in
-    let faults = g.E.Write.contents c.args.faults.now in
-    let new = g.E.Write.contents c.gather.new.faults in
+pub returns-clause-warned : goal.returns-clause-warned
+returns-clause-warned g c =
     let gathered = c.in_ok-whole.ensures.ok in
-    if_err c.tell_whole.result (λ e why. ends_untold Finds folder e c.in_ok-whole.whole.trunk gathered.parts gathered.lines said new_said faults new gathered.holds gathered.says why) c.tell_whole.ensures.err
+    let warns = warns_all (g.S.PartLedgers.finds c.args.parts.now) c.args.folder.now c.in_ok-whole.whole.trunk gathered.parts gathered.lines (g.E.Write.contents c.args.faults.now) (g.E.Write.contents c.gather.new.faults) gathered.holds gathered.says in
+    if_err c.tell_whole.result (λ e silent. inr warns) c.tell_whole.ensures.err

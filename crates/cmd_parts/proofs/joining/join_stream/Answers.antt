@@ -1,18 +1,9 @@
-use Rattle.std.proofs.Common.{List, inl, refl, sym, subst}
-use Rattle.std.proofs.lemmas.Result.{err_from_is_err_and}
+use Rattle.std.proofs.Common.{List, sym, subst}
 use Rattle.machine_text.specs.Packed.{Packed}
 use Rattle.ledger.specs.Contents.{Contents, IsOpenOn}
 use Rattle.ledger.specs.Tally.{AreAll}
-use Rattle.cmd_options.specs.declared.ended.Ended.{Ended}
-use Rattle.cmd_parts.specs.Stream.{EndsStream}
-use Rattle.cmd_parts.proofs.Telling.{ends_taking, joins_so, told_so}
+use Rattle.cmd_parts.proofs.Telling.{joins_so, told_so}
 use Rattle.cmd_parts.proofs.joining.join_stream.Goals as goal
-
-pub returns-in_err-take_ledgers : goal.returns-in_err-take_ledgers
-returns-in_err-take_ledgers g c =
-    let said = g.W.Write.contents c.args.answers.now in
-    let p = err_from_is_err_and c.from_residual.result c.from_residual.ensures.1 in
-    rw p.1 (subst (λ (e : Ended). EndsStream e said said) (sym p.2) (ends_taking _ c.in_err-take_ledgers.ensures.err, inl refl))
 
 pub returns : goal.returns
 returns g c =
@@ -32,5 +23,5 @@ returns g c =
     let mid = g.E.Write.contents c.take_ledgers.new.faults in
     let new_faults = g.E.Write.contents c.says_missing.new.faults in
     joins_so IsText c.tell_whole.result read new_read said new_said faults new_faults
-    (told_so IsText c.new-joiner.result new whole roots all both c.tell_whole.result read new_read faults mid new_faults said new_said c.new-joiner.ensures.whole c.new-joiner.ensures.came c.in_ok-take_ledgers.ensures.ok
-    c.in-Some.is opened c.in_ok-are_all.ensures.ok c.are_both-both.ensures.sound c.are_both-both.ensures.neither c.tell_whole.ensures.ok) c.tell_whole.ensures.err
+    (told_so IsText c.new-joiner.result new whole roots all both c.tell_whole.result read new_read faults mid new_faults said new_said c.new-joiner.ensures.whole c.new-joiner.ensures.came c.in_ok-take_ledgers.ensures
+    c.in-Some.is opened c.in_ok-are_all.ensures c.are_both-both.ensures.sound c.are_both-both.ensures.neither c.tell_whole.ensures.ok) c.tell_whole.ensures.err

@@ -9,17 +9,17 @@ loop-init g c =
     nothing_read g.T.LedgerTaker.takes c.args.taker.now (g.R.Read.remaining c.args.input.now) (g.E.Write.contents c.args.faults.now) c.new-ledgers.result.before.items c.new-ledgers.result.line.items
     c.new-ledgers.ensures.before c.new-ledgers.ensures.line
 
-pub returns-then-count-eq0-clause-ok : goal.returns-then-count-eq0-clause-ok
-returns-then-count-eq0-clause-ok g c =
+pub returns-then-count-eq0 : goal.returns-then-count-eq0
+returns-then-count-eq0 g c =
     let reads : Consumes (g.R.Read.remaining c.loop.input) (g.R.Read.remaining c.read.new.self) [] =
     subst (λ (n : ℕ). Consumes (g.R.Read.remaining c.loop.input) (g.R.Read.remaining c.read.new.self) (take n c.read.new.buf)) c.if-count-eq0.true c.in-Ok.ensures.bytes.0 in
     let room : 0 < length c.read.new.buf = first_of (search rules, grind (arith, common_steps)) in
     let ends : IsAtEnd (g.R.Read.remaining c.read.new.self) = c.in-Ok.ensures.bytes.1 c.if-count-eq0.true room in
     stream_taken g.T.LedgerTaker.takes c.args.taker.now (g.R.Read.remaining c.args.input.now) (g.E.Write.contents c.args.faults.now) (g.R.Read.remaining c.loop.input) c.loop.ledgers.before.items
-    c.loop.ledgers.line.items c.loop.taker (g.E.Write.contents c.loop.faults) (g.R.Read.remaining c.read.new.self) c.end.new.taker (g.E.Write.contents c.end.new.faults) c.loop.invariant reads ends c.in_ok-end.ensures.ok
+    c.loop.ledgers.line.items c.loop.taker (g.E.Write.contents c.loop.faults) (g.R.Read.remaining c.read.new.self) c.end.new.taker (g.E.Write.contents c.end.new.faults) c.loop.invariant reads ends c.in_ok-end.ensures
 
 pub loop-preserved : goal.loop-preserved
 loop-preserved g c =
     piece_read g.T.LedgerTaker.takes c.args.taker.now (g.R.Read.remaining c.args.input.now) (g.E.Write.contents c.args.faults.now) (g.R.Read.remaining c.loop.input) c.loop.ledgers.before.items
     c.loop.ledgers.line.items c.loop.taker (g.E.Write.contents c.loop.faults) (g.R.Read.remaining c.read.new.self) c.take.new.self.before.items c.take.new.self.line.items c.take.new.taker
-    (g.E.Write.contents c.take.new.faults) (take c.in-Ok.count c.read.new.buf) c.loop.invariant c.in-Ok.ensures.bytes.0 c.in_ok-take.ensures.ok
+    (g.E.Write.contents c.take.new.faults) (take c.in-Ok.count c.read.new.buf) c.loop.invariant c.in-Ok.ensures.bytes.0 c.in_ok-take.ensures

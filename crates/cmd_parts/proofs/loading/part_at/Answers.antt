@@ -4,8 +4,8 @@ use Rattle.cmd_parts.specs.Split.{path_within}
 use Rattle.cmd_parts.proofs.Parts.{missing_found, part_found}
 use Rattle.cmd_parts.proofs.loading.part_at.Goals as goal
 
-pub returns-in-Some-clause-ok : goal.returns-in-Some-clause-ok
-returns-in-Some-clause-ok g c =
+pub returns-in-Some : goal.returns-in-Some
+returns-in-Some g c =
     let Finds = g.S.PartLedgers.finds c.args.parts.now in
     let folder = c.args.folder.now in
     let root = c.args.root.now in
@@ -15,8 +15,8 @@ returns-in-Some-clause-ok g c =
     let finds : Finds c.deref.result.now (Some (has, size)) = search rules in
     part_found Finds folder root has size (subst (λ (p : List ℕ). Finds p (Some (has, size))) is finds) c.part_in.result c.part_in.ensures.met c.part_in.ensures.root
 
-pub returns-clause-ok : goal.returns-clause-ok
-returns-clause-ok g c =
+pub returns : goal.returns
+returns g c =
     let Finds = g.S.PartLedgers.finds c.args.parts.now in
     let folder = c.args.folder.now in
     let root = c.args.root.now in

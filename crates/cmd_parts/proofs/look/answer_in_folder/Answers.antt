@@ -2,9 +2,9 @@ use Rattle.std.proofs.Common.{rules, refl}
 use Rattle.cmd_parts.proofs.Kept.{folder_stream}
 use Rattle.cmd_parts.proofs.look.answer_in_folder.Goals as goal
 
-pub returns-clause-ok : goal.returns-clause-ok
-returns-clause-ok g c =
-    let read = c.in_ok-trunk.ensures.ok in record {
+pub returns : goal.returns
+returns g c =
+    let read = c.in_ok-trunk.ensures in record {
       trunk = c.in_ok-trunk.trunk;
       left = read.0;
       reads = search rules;

@@ -23,4 +23,4 @@ loop-root-preserved g c =
     ] in
     subst (λ (l : List Packed). SaysMissed came l c.if-not-branch.are_all (g.E.Write.contents c.args.faults.now) (g.E.Write.contents c.looked_for.new.faults)) (sym more)
     (one_missed came (take i roots) root c.loop-root.are_all c.in_ok-looked_for.field-0 c.if-not-branch.are_all (g.E.Write.contents c.args.faults.now) (g.E.Write.contents c.loop-root.faults) (g.E.Write.contents c.looked_for.new.faults)
-    c.loop-root.invariant c.in_ok-looked_for.ensures.ok both neither)
+    c.loop-root.invariant c.in_ok-looked_for.ensures both neither)

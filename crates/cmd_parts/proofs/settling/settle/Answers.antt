@@ -15,4 +15,4 @@ returns-clause-step g c =
     let took = c.in_ok-take.ensures in
     on_ok c.append_line.result (λ kept. stays_by old c.take.new.board r before _ c.root.ensures.board
     (inl (took.fit, ap (λ (b : Contents). b.records) took.ok)) (ap (λ (b : Contents). b.root) took.ok) (ap (λ (b : Contents). b.format) took.ok)
-    (one_line old.format r _ _ before _ took.line c.new-line.ensures.items (kept.0 ∙ ap (grown before) c.deref.ensures.value))) c.append_line.ensures.ok
+    (one_line old.format r _ _ before _ took.line c.new-line.ensures.items (kept ∙ ap (grown before) c.deref.ensures.value))) c.append_line.ensures.ok

@@ -10,5 +10,4 @@ invariant-loop-t g l = SettlesMany (AtSomeTime _ g.D.Decider.answers) (IsOpenBel
     × (length l.board.records ≡ length l.fn.board.records + l.t-index)
     × (0 < l.t-index → length l.board.records < 2 ^ 64)
     × StaysInStep l.fn.board (g.L.LedgerOut.text l.fn.ledger) l.board (g.L.LedgerOut.text l.ledger)
-    × (g.L.LedgerOut.failures l.ledger ≡ g.L.LedgerOut.failures l.fn.ledger)
     × ((k : ℕ) (d : Packed) → l.t-index ≤ k → k < length l.due → IsOpenBelow l.limit l.board (get_or l.due k d))

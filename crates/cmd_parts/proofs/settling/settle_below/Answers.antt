@@ -1,41 +1,37 @@
-use Rattle.std.proofs.Common.{◌+◌, length, refl, sym, ◌∙◌, subst, arith}
+use Rattle.std.proofs.Common.{inl, ◌+◌, length, refl, arith}
 use Rattle.std.proofs.lemmas.Result.{err_from_is_err_and}
 use Rattle.cmd_ledgers.specs.Retry.{AtSomeTime}
-use Rattle.cmd_options.specs.declared.ended.Ended.{Ended}
-use Rattle.cmd_parts.specs.Settling.{EndsSettling, IsOpenBelow}
-use Rattle.cmd_parts.proofs.Settled.{ends_later, many_more_settled}
+use Rattle.cmd_parts.specs.Settling.{IsOpenBelow}
+use Rattle.cmd_parts.proofs.Settled.{leaves_later, many_more_settled}
 use Rattle.cmd_parts.proofs.settling.settle_below.Goals as goal
 
-pub returns-in_err-settle_all-clause-ended : goal.returns-in_err-settle_all-clause-ended
-returns-in_err-settle_all-clause-ended g c =
+pub returns-in_err-settle_all-clause-leaves : goal.returns-in_err-settle_all-clause-leaves
+returns-in_err-settle_all-clause-leaves g c =
     let A = AtSomeTime _ g.D.Decider.answers in
     let IsDue = IsOpenBelow c.args.limit in
-    let (k, many, number, step, works, due) = c.rounds.invariant in
+    let (k, many, number, step, due) = c.rounds.invariant in
     let p = err_from_is_err_and c.from_residual-in_err-settle_all.result c.from_residual-in_err-settle_all.ensures.1 in
-    rw p.1 (subst (λ (e : Ended). EndsSettling A IsDue e c.args.board.now (g.L.LedgerOut.text c.args.ledger.now) c.settle_all.new.board (g.L.LedgerOut.text c.settle_all.new.ledger)) (sym p.2)
-    (ends_later A IsDue _ k _ _ _ _ _ _ many c.in_err-settle_all.ensures.ended))
+    rw p.1 (leaves_later A IsDue k _ _ _ _ _ _ many c.in_err-settle_all.ensures.leaves)
 
-pub returns-in_err-due-2-clause-ended : goal.returns-in_err-due-2-clause-ended
-returns-in_err-due-2-clause-ended g c =
+pub returns-in_err-due-2-clause-leaves : goal.returns-in_err-due-2-clause-leaves
+returns-in_err-due-2-clause-leaves g c =
     let A = AtSomeTime _ g.D.Decider.answers in
     let IsDue = IsOpenBelow c.args.limit in
-    let (k, many, number, step, works, due) = c.rounds.invariant in
+    let (k, many, number, step, due) = c.rounds.invariant in
     let j = length c.deref.result.now in
     let p = err_from_is_err_and c.from_residual-in_err-due-2.result c.from_residual-in_err-due-2.ensures.1 in
-    rw p.1 (subst (λ (e : Ended). EndsSettling A IsDue e c.args.board.now (g.L.LedgerOut.text c.args.ledger.now) c.settle_all.new.board (g.L.LedgerOut.text c.settle_all.new.ledger)) (sym p.2)
-    (k + j, _, _, many_more_settled A IsDue k j (k + j) _ _ _ _ _ _ refl many c.in_ok-settle_all.ensures.settled, (refl, refl)))
+    rw p.1 (k + j, _, _, many_more_settled A IsDue k j (k + j) _ _ _ _ _ _ refl many c.in_ok-settle_all.ensures.settled, inl (refl, refl))
 
 pub rounds-preserved : goal.rounds-preserved
 rounds-preserved g c =
     let A = AtSomeTime _ g.D.Decider.answers in
     let IsDue = IsOpenBelow c.args.limit in
-    let (k, many, number, step, works, due) = c.rounds.invariant in
+    let (k, many, number, step, due) = c.rounds.invariant in
     let j = length c.deref.result.now in
     let took = c.in_ok-settle_all.ensures in (
       k + j,
       many_more_settled A IsDue k j (k + j) _ _ _ _ _ _ refl many took.settled,
       omega (arith, number, took.records),
       λ s. took.step (step s),
-      took.counted.works ∙ works,
       c.in_ok-due-2.ensures,
     )

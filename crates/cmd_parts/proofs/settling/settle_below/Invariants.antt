@@ -9,7 +9,6 @@ abbrev pub invariant-rounds : goal.invariant-rounds
 invariant-rounds g l = (k : ℕ) × SettlesMany (AtSomeTime _ g.D.Decider.answers) (IsOpenBelow l.limit) k l.fn.board (g.L.LedgerOut.text l.fn.ledger) l.board (g.L.LedgerOut.text l.ledger)
     × (length l.board.records ≡ length l.fn.board.records + k)
     × StaysInStep l.fn.board (g.L.LedgerOut.text l.fn.ledger) l.board (g.L.LedgerOut.text l.ledger)
-    × (g.L.LedgerOut.failures l.ledger ≡ g.L.LedgerOut.failures l.fn.ledger)
     × AreAll (IsOpenBelow l.limit l.board) l.due.items
 
 abbrev pub decreases-rounds : goal.decreases-rounds

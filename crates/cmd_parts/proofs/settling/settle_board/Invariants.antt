@@ -3,12 +3,11 @@ use Rattle.cmd_ledgers.specs.Retry.{AtSomeTime, StaysInStep}
 use Rattle.cmd_parts.specs.Settling.{ComesFirst, SettlesMany}
 use Rattle.cmd_parts.proofs.settling.settle_board.Given as goal
 
--- so many tables were settled, of which the board has as many records more, the ledger has stayed in step, and has not failed
+-- so many tables were settled, of which the board has as many records more, and the ledger has stayed in step
 abbrev pub invariant-loop-t : goal.invariant-loop-t
 invariant-loop-t g l = (k : ℕ) × SettlesMany (AtSomeTime _ g.D.Decider.answers) ComesFirst k l.fn.board (g.L.LedgerOut.text l.fn.ledger) l.board (g.L.LedgerOut.text l.ledger)
     × (length l.board.records ≡ length l.fn.board.records + k)
     × StaysInStep l.fn.board (g.L.LedgerOut.text l.fn.ledger) l.board (g.L.LedgerOut.text l.ledger)
-    × (g.L.LedgerOut.failures l.ledger ≡ g.L.LedgerOut.failures l.fn.ledger)
 
 abbrev pub decreases-loop-t : goal.decreases-loop-t
 decreases-loop-t g l = 2 ^ 64 - length l.board.records

@@ -26,5 +26,5 @@ returns-clause-grows g c =
       grows = gone_on (λ (has : Option (List ℕ)) (size : ℕ) (before after : Option (List ℕ)). GrowsTrunk (λ t. SeesAt (opened (path_within folder (text_of t))) (Ok false)) A n limit has size before board after)
           tells (g.H.Files.tells_same c.ledger_at.new.host) path old opened new (g.H.Reader.Read.remaining c.in_ok-held.held.reader) c.in_ok-held.held.length
           (g.H.Ledger.LedgerOut.text c.in_ok-ledger.ledger) (g.H.Ledger.LedgerOut.text c.grow_trunk-grown.new.ledger)
-          c.in_ok-held.ensures.ok c.in_ok-ledger.ensures.ok c.in_ok-ledger.ensures.others c.in_ok-ledger.ensures.tells c.close.ensures.put grows;
+          c.in_ok-held.ensures c.in_ok-ledger.ensures.ok c.in_ok-ledger.ensures.others c.in_ok-ledger.ensures.tells c.close.ensures.put grows;
     })) c.grow_trunk-grown.ensures.grows

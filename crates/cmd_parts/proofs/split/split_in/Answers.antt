@@ -14,7 +14,7 @@ returns g c =
     let second : c.deref-3.result.now ≡ path_within splitting.folder.now (codes "trunk") = search rules in
     let grown = c.in_ok-trunk.ensures in (
       refl,
-      (c.in_ok-_lock._lock, subst (λ (p : List ℕ). g.H.Files.locks p (Ok (Some c.in_ok-_lock._lock))) locked c.in_ok-_lock.ensures.ok),
+      (c.in_ok-_lock._lock, subst (λ (p : List ℕ). g.H.Files.locks p (Ok (Some c.in_ok-_lock._lock))) locked c.in_ok-_lock.ensures),
       split_so (AtSomeTime _ g.D.Decider.answers) tells (g.H.Files.tells_same c.begin_folder.new.host) (g.H.Files.tells_same c.grown_trunk.new.host) splitting.states splitting.filled splitting.folder.now
           c.deref.result.now c.deref-3.result.now (g.H.Files.holds c.args.host.now) (g.H.Files.holds c.begin_folder.new.host) (g.H.Files.holds c.grown_trunk.new.host) (g.H.Files.holds c.split_off.new.host)
           c.in_ok-trunk.trunk (g.W.Write.contents c.args.answers.now) (g.W.Write.contents c.split_off.new.answers)

@@ -3,18 +3,12 @@ use Rattle.std.specs.Prelude.{List, Ok, false}
 use Rattle.machine_text.specs.Packed.{Packed}
 use Rattle.ledger.specs.Tally.{AreAll}
 use Rattle.cmd_parts.specs.Settling.{IsOpenBelow}
-use Rattle.cmd_parts.proofs.Trunks.{none_seen, one_stops}
+use Rattle.cmd_parts.proofs.Trunks.{none_seen}
 use Rattle.cmd_parts.proofs.trunk.refuse_parts.Goals as goal
 
-pub returns-clause-ok : goal.returns-clause-ok
-returns-clause-ok g c =
+pub returns : goal.returns
+returns g c =
     let IsDue = IsOpenBelow c.args.limit c.args.board.now in
     let is : c.deref.result.now ≡ c.in_ok-due.due.items = search rules in
     let all = subst (λ (due : List Packed). AreAll IsDue due) (sym is) c.in_ok-due.ensures in
-    none_seen (λ t. g.G.Folder.sees c.args.folder.now t (Ok false)) IsDue c.deref.result.now c.refuse_parts_of.result all c.refuse_parts_of.ensures.ok
-
-pub returns-clause-err : goal.returns-clause-err
-returns-clause-err g c =
-    let is : c.deref.result.now ≡ c.in_ok-due.due.items = search rules in
-    let all = subst (λ (due : List Packed). AreAll (IsOpenBelow c.args.limit c.args.board.now) due) (sym is) c.in_ok-due.ensures in
-    one_stops (g.G.Folder.sees c.args.folder.now) c.args.limit c.args.board.now c.deref.result.now c.refuse_parts_of.result all c.refuse_parts_of.ensures.err
+    none_seen (λ t. g.G.Folder.sees c.args.folder.now t (Ok false)) IsDue c.deref.result.now c.refuse_parts_of.result all c.refuse_parts_of.ensures

@@ -10,7 +10,7 @@ loop-t-preserved g c =
     let seen : IsSeen c.t-item.result = search rules in
     All-more IsSeen c.args.tables.now c.loop-t.t-index c.t-item.result c.loop-t-test.true c.loop-t.invariant (subst IsSeen c.t-item.is seen)
 
-pub returns-clause-ok : goal.returns-clause-ok
-returns-clause-ok g c =
+pub returns : goal.returns
+returns g c =
     let IsSeen = λ (t : Packed). g.G.Folder.sees c.args.folder.now t (Ok false) in
     subst (All IsSeen) (take_all c.loop-t.t-index c.args.tables.now (omega (arith, c.loop-t-test.false))) c.loop-t.invariant

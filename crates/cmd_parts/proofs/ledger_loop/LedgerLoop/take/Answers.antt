@@ -4,8 +4,8 @@ use Rattle.cmd_parts.specs.inside.Taking.{HasTaken}
 use Rattle.cmd_parts.proofs.Taking.{rest_taken, whole_line}
 use Rattle.cmd_parts.proofs.ledger_loop.LedgerLoop.take.Goals as goal
 
-pub returns-in_default-clause-ok : goal.returns-in_default-clause-ok
-returns-in_default-clause-ok g c start begun text so =
+pub returns-in_default : goal.returns-in_default
+returns-in_default g c start begun text so =
     let (done, is, has) = c.lines.invariant start begun text so in
     rest_taken g.T.LedgerTaker.takes start begun (text ++ c.args.piece.now) done c.lines.left.now c.cut.result.0.now c.lines.self.before.items c.lines.self.line.items c.extend_from_slice.new.self.items
     c.lines.taker (g.E.Write.contents c.lines.faults) is (subst (IsCut c.lines.left.now c.cut.result.0.now) c.in_default.is c.cut.ensures.cut) has c.in_ok-extend_from_slice.ensures.items

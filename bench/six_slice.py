@@ -16,7 +16,7 @@ import time
 
 from program import PROGRAM, TOP
 
-KINDS = "HCTBNFAWPU"
+KINDS = "HCTBNFAWRPU"
 
 
 def parts_of(folder):

@@ -38,10 +38,10 @@ SEEN = 1_000
 # Longer ones meet no refusals, each of which takes a call.
 SHORT = 300
 # The letters of the kinds, each of which has to be there, and what `bb check` has to answer at least once.
-KINDS = "HCTBNFAWPU"
+KINDS = "HCTBNFAWRPU"
 ANSWERS = ["halts", "never", "undecided", "refused 201", "refused 202", "refused 203", "refused 301", "refused 302", "refused 303",
            "refused 304", "refused 305"]
-COUNTED = [b"1RA--- W 1 0 0,1a,-,1a 0,- 0A00:0,1A00:1a:1a", b"1RA--- A R 1 0,0 0,- 0",
+COUNTED = [b"1RA--- W 1 0 0,1a,-,1a 0,- 0A00:0,1A00:1a:1a", b"1RA--- R - 1^0a1A> 0 l0E.1 1a1 r0B.0.1,1,l0S.1.1.0a1", b"1RA--- A R 1 0,0 0,- 0",
            b"0RB---_0LA--- A R 2 0,1,1,1 1,-,.,-,3,-,-,- 0,1", b"0RB---_0LA--- F R 2 0111 2,10,0,10,8,10,10,10 3"]
 ODD = [b"", b" ", b"\0", b"\xff" * 40, b"1RB1LB_1LA---\0 H 6", b"1RB1LB_1LA--- H 6\r", b"1RB1LB_1LA---  H 6", b"1RB1LB_1LA--- H 6 4 ",
        b"1RB1LB_1LA--- H 99999999999999999999", b"1RB1LB_1LA--- H 18446744073709551615", b"0RB---_0RA1RA B 33",

@@ -17,7 +17,7 @@ from ledgers import damage, play, whole
 from records import PROGRAM
 from tree import Loaded
 
-LETTERS = "HCTBNFAWPU"
+LETTERS = "HCTBNFAWRPU"
 STATUS = {"working": "Working", "holdouts": "Holdouts", "complete": "Complete"}
 SUMS = re.compile(r"<tr><th scope='row'>SHA-256 of the l.*\n")
 VERSION = subprocess.run([PROGRAM, "--version"], capture_output=True, check=True).stdout.decode().strip()

@@ -19,5 +19,8 @@ module _ {K : Type 0} (Answers : Packed → Recorded → Type 0) (Locks : Result
       → SettlesAt Answers Locks tells path old new said new_said r
   settled_at lock (Ok done) locked read ledger kept still put settles silent leaves =
       (lock, locked, gone_on (λ h n b a. SettlesLedger Answers h n b a said new_said) tells later path old opened new has size before after read ledger kept still put settles)
-  settled_at lock (Err e) locked read ledger kept still put settles silent leaves = (silent, inr
-      (gone_on (LeavesLedger (LeavesSettled Answers ComesFirst)) tells later path old opened new has size before after read ledger kept still put leaves))
+  settled_at lock (Err e) locked read ledger kept still put settles silent leaves = (
+    silent,
+    inr
+        (gone_on (LeavesLedger (LeavesSettled Answers ComesFirst)) tells later path old opened new has size before after read ledger kept still put leaves),
+  )

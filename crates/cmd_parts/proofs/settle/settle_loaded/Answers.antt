@@ -27,12 +27,24 @@ pub returns-in_err-append_settled-clause-leaves : goal.returns-in_err-append_set
 returns-in_err-append_settled-clause-leaves g c =
     let A = AtSomeTime _ g.D.Decider.answers in
     let p = err_from_is_err_and c.from_residual-in_err-append_settled.result c.from_residual-in_err-append_settled.ensures.1 in
-    rw p.1 (inr (c.in_ok-count.count, _, _, subst (λ (t : Option (List ℕ)). SettlesMany A ComesFirst c.in_ok-count.count c.args.board.now t c.settle_board.new.board (g.L.LedgerOut.text c.settle_board.new.ledger)) c.in_ok-cut_off.ensures.ok
-    c.in_ok-count.ensures.settled, inl (refl, refl)))
+    rw p.1 (inr (
+      c.in_ok-count.count,
+      _,
+      _,
+      subst (λ (t : Option (List ℕ)). SettlesMany A ComesFirst c.in_ok-count.count c.args.board.now t c.settle_board.new.board (g.L.LedgerOut.text c.settle_board.new.ledger)) c.in_ok-cut_off.ensures.ok
+          c.in_ok-count.ensures.settled,
+      inl (refl, refl),
+    ))
 
 pub returns-in_err-write_all-clause-leaves : goal.returns-in_err-write_all-clause-leaves
 returns-in_err-write_all-clause-leaves g c =
     let A = AtSomeTime _ g.D.Decider.answers in
     let p = err_from_is_err_and c.from_residual-in_err-write_all.result c.from_residual-in_err-write_all.ensures.1 in
-    rw p.1 (inr (c.in_ok-count.count, _, _, subst (λ (t : Option (List ℕ)). SettlesMany A ComesFirst c.in_ok-count.count c.args.board.now t c.settle_board.new.board (g.L.LedgerOut.text c.settle_board.new.ledger)) c.in_ok-cut_off.ensures.ok
-    c.in_ok-count.ensures.settled, inl (refl, refl)))
+    rw p.1 (inr (
+      c.in_ok-count.count,
+      _,
+      _,
+      subst (λ (t : Option (List ℕ)). SettlesMany A ComesFirst c.in_ok-count.count c.args.board.now t c.settle_board.new.board (g.L.LedgerOut.text c.settle_board.new.ledger)) c.in_ok-cut_off.ensures.ok
+          c.in_ok-count.ensures.settled,
+      inl (refl, refl),
+    ))

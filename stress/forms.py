@@ -12,6 +12,7 @@ LONGEST = 10_000
 LONGEST_TOGETHER = 2_000_000
 MOST_BLOCKS = 2_000
 MOST_BYTES = 49_152
+LONGEST_FORM = 300
 
 ONCE = (1, 0, 0, 0, 0)
 NEVER = (0, 0, 0, 0, 0)
@@ -59,6 +60,7 @@ def blocks_of(text):
 
 
 def form_of(text, states):
+    text_if(len(text) <= LONGEST_FORM)
     parts = re.fullmatch(rb"([^A-Z]*)([A-Z])([<>])(.*)", text, re.S)
     text_if(parts)
     state = parts[2][0] - ord("A")

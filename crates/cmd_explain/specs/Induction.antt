@@ -1,11 +1,23 @@
 -- What is told of rules with induction: `R`.
-use Rattle.std.specs.Prelude.{◌≡◌, ℕ, List, codes}
-use Rattle.machine_text.specs.Packed.{Packed}
-use Rattle.kind_rules.specs.RuleTexts.{RuleTexts, AreRulesOf}
+use Rattle.std.specs.Prelude.{◌≡◌, ℕ, List, [], ◌∷◌, Some, true, codes}
+use Rattle.machine_text.specs.Packed.{Packed, entry_of}
+use Rattle.law_induction.specs.Rules.{Certificate, is_certificate}
+use Rattle.kind_rules.specs.RuleTexts.{RuleTexts, given_by}
+use Rattle.cmd_explain.specs.Quantity.{sentence}
+use Rattle.cmd_explain.specs.Notation.{rule_lines, family_line, first_line}
 
-abbrev pub rule_words : List ℕ
-rule_words = codes "Rules with induction: each says that the run comes from one form of tape, with words that stand as often as variables say, to another one, and is proved by steps of the table, by the rules before it, or by induction.\nBy them the run comes from the blank tape to a form of the family, and from each form of the family, in a step or more, to another one.\nSo it never halts.\n"
+abbrev pub rules_opening : List ℕ
+rules_opening = codes "Rules with induction: from the first form of a line the run comes to the second one, whatever numbers stand for n, m, k and j. A form is a tape from left to right with the head at < or >; * is any half tape, $ a blank one, and a word in brackets stands as often as its exponent says. Behind it is the proof: numbers of steps, and rules with what stands for n, m, k and j; by induction on n it is one for 0 and one for n+1, in which ih is the rule itself, for n.\n"
 
+-- the certificate itself, in the notation of people
+unfoldable pub rules_words : Certificate → List ℕ
+rules_words c = sentence (
+    rules_opening ∷ rule_lines 0 c.rules ∷ family_line c ∷ first_line c
+    ∷ codes "So it comes to forms of H again and again, and never halts.\n" ∷ [])
+
+-- it is a certificate of the table, and the words are its own
 pub record TellsRules (p : Packed) (t : RuleTexts) (words : List ℕ) : Type 0 where
-  pub rules : AreRulesOf t p
-  pub is : words ≡ rule_words
+  pub certificate : Certificate
+  pub given : given_by t ≡ Some certificate
+  pub stands : is_certificate (entry_of p) certificate ≡ true
+  pub is : words ≡ rules_words certificate

@@ -7,6 +7,7 @@ pub mod Backward
 pub mod Ngrams
 pub mod Reduction
 pub mod Counts
+pub mod Notation
 pub mod Induction
 pub mod Named
 pub mod Explained

@@ -81,8 +81,8 @@ pub(crate) fn letter_of_state(state: State) -> &'static str
     }
 }
 
-// A symbol as it stands on the tape.
-fn digit_of(symbol: Sym) -> &'static str
+/// A symbol as it stands on the tape.
+pub(crate) fn digit_of(symbol: Sym) -> &'static str
     ensures { result.now ≡ symbol_byte symbol ∷ [] }
 {
     match symbol {

@@ -8,14 +8,17 @@ mod backward_reasoning;
 mod counted;
 mod cycling;
 mod explain;
+mod exponents;
 mod halting;
 mod named;
 mod ngrams;
 mod quantity;
 mod reduction;
 mod rules;
+mod scripts;
 mod shifting;
 mod sides;
+mod tapes;
 mod why;
 mod words;
 

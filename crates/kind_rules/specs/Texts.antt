@@ -17,7 +17,7 @@ use Rattle.law_induction.specs.Words.{exponent_limit, times_with, times_eq, neve
 use Rattle.law_induction.specs.Forms.{Form, form_with, RuleForm}
 use Rattle.law_induction.specs.Equations.{◌>>=◌}
 use Rattle.law_induction.specs.Rules.{Proved}
-use Rattle.kind_rules.specs.Limits.{symbol_weight_limit}
+use Rattle.kind_rules.specs.Limits.{form_byte_limit, symbol_weight_limit}
 
 -- a number that isn't too large, and one that isn't 0 either
 unfoldable pub number_from : List ℕ → Option ℕ
@@ -96,7 +96,8 @@ abbrev pub is_capital : ℕ → Bool
 is_capital b = nat_le 65 b && nat_le b 90
 
 unfoldable pub form_from : ℕ → List ℕ → Option Form
-form_from states text = position is_capital text >>= λ at. form_at states text at
+form_from states text =
+    if nat_le (length text) form_byte_limit then (position is_capital text >>= λ at. form_at states text at) else None
 
 -- the next exponent of some, which is 0 where none is left, and those behind it
 abbrev pub next_times : List (List ℕ) → Option Exponent
@@ -211,7 +212,6 @@ script_from text = if length text == 0 then Some [] else moves_from (parts_of 44
 abbrev pub end_from : ℕ → Option Bool
 end_from b = if b == 111 then Some true else if b == 98 then Some false else None
 
--- a rule with its proof: one script, or two for a proof by induction
 pub record RuleEnds : Type 0 where
   pub open_left : Bool
   pub open_right : Bool
@@ -228,6 +228,7 @@ rule_form_from states ends from to =
     ends_from ends >>= λ e. form_from states from >>= λ f. form_from states to >>= λ g.
     Some (record { open_left = e.open_left; open_right = e.open_right; from = f; to = g })
 
+-- a rule with its proof: one script, or two for a proof by induction
 abbrev pub proved_from : RuleForm → List (List ℕ) → Option Proved
 proved_from rule (script ∷ []) =
     script_from script >>= λ moves. Some (record { rule = rule; base = None; script = moves })

@@ -10,7 +10,7 @@ use std::alloc::{AllocError as NoMemory, Global};
 
 /// The blocks of the two half tapes, those nearest to the head first, the state, and on which half tape the head is.
 #[derive(Drop)]
-pub(crate) struct Form {
+pub struct Form {
     pub left: Vec<Block>,
     pub state: u8,
     pub heading: Dir,
@@ -19,7 +19,7 @@ pub(crate) struct Form {
 
 /// A rule: which ends are open, and the two forms.
 #[derive(Drop)]
-pub(crate) struct Rule {
+pub struct Rule {
     pub open_left: bool,
     pub open_right: bool,
     pub from: Form,

@@ -5,6 +5,7 @@ ghost use Rattle.kind_rules.specs.Texts.{block_from, blocks_from, half_from, for
 ghost use Rattle.kind_rules.specs.Views.{form_in};
 
 use crate::form::Form;
+use crate::limits::MAX_FORM_BYTES;
 use crate::number_text::{times_from, word_from};
 use crate::sides::once;
 use law_induction::Block;
@@ -138,6 +139,9 @@ fn is_form_at(states: u8, text: &[u8], at: usize) -> bool
 pub(crate) fn is_form(states: u8, text: &[u8]) -> bool
     ensures { result ≡ is_some (form_from states text.now) }
 {
+    if text.len() > MAX_FORM_BYTES {
+        return false;
+    }
     match capital_place(text) {
         Some(at) => is_form_at(states, text, at),
         None => false,
@@ -178,6 +182,9 @@ fn read_form_at(alloc: Global, states: u8, text: &[u8], at: usize) -> Result<Opt
 pub(crate) fn read_form(alloc: Global, states: u8, text: &[u8]) -> Result<Option<Form>, NoMemory>
     ensures { IfOk result (λ form. option_map form_in form ≡ form_from states text.now) }
 {
+    if text.len() > MAX_FORM_BYTES {
+        return Ok(None);
+    }
     match capital_place(text) {
         Some(at) => read_form_at(alloc, states, text, at),
         None => Ok(None),

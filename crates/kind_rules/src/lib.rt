@@ -26,7 +26,10 @@ mod unpacked;
 mod using;
 mod words;
 
+pub use form::{Form, Rule};
 pub use laws::rules_are_a_kind;
 pub use limits::MAX_RULE_BYTES;
 pub use owned_rules::OwnedRules;
 pub use rules::Rules;
+pub use unpacked::{ProvedRule, Unpacked};
+pub use words::symbols_of;

@@ -3,6 +3,9 @@
 /// The most bytes of the six texts of a claim together, with the five spaces between them.
 pub const MAX_RULE_BYTES: usize = 49_152;
 
+/// The most bytes of a form's text: how long a rule takes that is used without end.
+pub(crate) const MAX_FORM_BYTES: usize = 300;
+
 /// The greatest number that may come up.
 pub(crate) const MAX_NUMBER: u64 = 1_000_000;
 

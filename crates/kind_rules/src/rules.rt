@@ -4,6 +4,7 @@ ghost use Rattle.kind_rules.specs.TextsGiven.{rule_texts_given};
 
 use crate::stop::Stop;
 use crate::texts_given::TextsGiven;
+use crate::unpacked::Unpacked;
 use kind_evidence::{Evidence, NoMemory, Refused, Verdict};
 use machine_text::Table;
 use std::alloc::Global;
@@ -21,12 +22,13 @@ pub struct Rules<'a> {
 }
 
 impl<'a> Rules<'a> {
-    ghost use Rattle.std.specs.Prelude.{◌≡◌, ◌++◌, ◌≤◌, OnOk, length, take};
+    ghost use Rattle.std.specs.Prelude.{◌≡◌, ◌++◌, ◌≤◌, IfOk, OnOk, Some, length, take};
     ghost use Rattle.machine_text.specs.Limits.{state_limit};
     ghost use Rattle.text.specs.Fields.{made_of, spaced};
     ghost use Rattle.kind_rules.specs.Fields.{rules_by, rule_texts_by, rule_fields};
-    ghost use Rattle.kind_rules.specs.RuleTexts.{AreRulesOf};
+    ghost use Rattle.kind_rules.specs.RuleTexts.{AreRulesOf, given_by};
     ghost use Rattle.kind_rules.specs.Claims.{rule_texts_of};
+    ghost use Rattle.kind_rules.specs.Views.{certificate_of};
 
     // The claim that texts make. It is `TooLong` where they are over `MAX_RULE_BYTES`, `BadList` where they are no such
     // texts.
@@ -82,6 +84,17 @@ impl<'a> Rules<'a> {
         append_field(self.texts.again, out)
     }
 
+    /// The certificate that the texts give, read into memory.
+    pub fn unpacked(&self, alloc: Global) -> Result<Unpacked, NoMemory>
+        ensures { IfOk result (λ c. given_by (rule_texts_of self.now) ≡ Some (certificate_of c)) }
+    {
+        match self.texts.read(alloc)? {
+            Some(unpacked) => Ok(unpacked),
+            // The texts were tested before.
+            None => unreachable!(),
+        }
+    }
+
     // Whether the rules are a certificate of a table. Reads the texts into memory.
     fn judged(&self, alloc: Global, t: &Table) -> Result<(), Stop>
         ensures stands { OnOk result (AreRulesOf (rule_texts_of self.now) t.now) }
@@ -90,11 +103,7 @@ impl<'a> Rules<'a> {
         if t.states() != self.texts.states {
             return Err(Stop::Fails);
         }
-        match self.texts.read(alloc)? {
-            Some(unpacked) => unpacked.judge(alloc, t),
-            // Never: the texts were tested before.
-            None => Err(Stop::Fails),
-        }
+        self.unpacked(alloc)?.judge(alloc, t)
     }
 }
 

@@ -4,13 +4,22 @@ ghost use Rattle.law_induction.specs.Words.{word_symbols, symbols_eq, digit};
 
 use crate::limits::MAX_WORD;
 use machine_text::Sym;
-use std::alloc::AllocError as NoMemory;
+use std::alloc::{AllocError as NoMemory, Global};
 
 // The symbol of a binary digit.
 fn digit(n: u64) -> Sym
     ensures { result ≡ digit n }
 {
     if n == 0 { Sym::Zero } else { Sym::One }
+}
+
+/// The symbols of a word, the first one first.
+pub fn symbols_of(alloc: Global, word: u64) -> Result<Vec<Sym>, NoMemory>
+    ensures { IfOk result (λ symbols. symbols.items ≡ word_symbols word) }
+{
+    let mut symbols = Vec::new(alloc);
+    spell(&mut symbols, word)?;
+    Ok(symbols)
 }
 
 // Puts the symbols of a word behind others.

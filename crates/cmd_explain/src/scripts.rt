@@ -1,0 +1,88 @@
+// Proofs of rules, as people write them.
+ghost use Rattle.std.specs.Prelude.{◌≡◌, ◌++◌, IfOk, string_bytes};
+ghost use Rattle.cmd_explain.specs.Notation.{again_text, move_text, proof_text, steps_behind, steps_text};
+
+use crate::exponents::{given_text, is_never};
+use kind_evidence::NoMemory;
+use law_induction::{Exponent, Exponents, Move};
+use std::alloc::Global;
+
+// A number of steps.
+fn steps_text(alloc: Global, steps: u128) -> Result<String, NoMemory>
+    ensures { IfOk result (λ text. string_bytes text ≡ steps_text steps) }
+{
+    if steps == 0 {
+        return Ok(String::new(alloc));
+    }
+    format!(in alloc; " {steps}")
+}
+
+// The rule that is being proved.
+#[tactic(auto, unfolding(crate::specs::Notation::again_text))]
+fn again_text(
+    alloc: Global,
+    b: Exponent,
+    c: Exponent,
+    d: Exponent,
+) -> Result<String, NoMemory>
+    ensures { IfOk result (λ text. string_bytes text ≡ again_text b c d) }
+{
+    if is_never(b) && is_never(c) && is_never(d) {
+        return String::from_str(alloc, " ih");
+    }
+    let a = Exponent {
+        ones: 0,
+        a: 1,
+        b: 0,
+        c: 0,
+        d: 0,
+    };
+    let given = given_text(alloc, &Exponents { a, b, c, d })?;
+    format!(in alloc; " ih{given}")
+}
+
+// What is written at a move behind so many steps.
+fn move_text(alloc: Global, steps: u128, x: &Move) -> Result<String, NoMemory>
+    ensures { IfOk result (λ text. string_bytes text ≡ move_text steps x.now) }
+{
+    let before = steps_text(alloc, steps)?;
+    match *x {
+        Move::Steps(_) | Move::Forth(..) | Move::Back(..) => Ok(String::new(alloc)),
+        Move::Turn => format!(in alloc; "{before} t"),
+        Move::Use(rule, by) => {
+            let given = given_text(alloc, &by)?;
+            format!(in alloc; "{before} x{rule}{given}")
+        }
+        Move::Again(b, c, d) => {
+            let again = again_text(alloc, b, c, d)?;
+            format!(in alloc; "{before}{again}")
+        }
+    }
+}
+
+// How many steps are still to be written behind a move.
+fn steps_behind(steps: u128, x: &Move) -> u128
+    requires { steps + 4294967296 < 2 ^ 128 }
+    ensures { result ≡ steps_behind steps x.now }
+{
+    match *x {
+        Move::Steps(more) => steps + u128::from(more),
+        Move::Turn | Move::Use(..) | Move::Again(..) => 0,
+        Move::Forth(..) | Move::Back(..) => steps,
+    }
+}
+
+/// A proof by one script: its steps and the rules that it uses, each behind a space.
+pub(crate) fn proof_text(alloc: Global, moves: &[Move]) -> Result<String, NoMemory>
+    ensures { IfOk result (λ text. string_bytes text ≡ proof_text 0 moves.now) }
+{
+    let mut text = String::new(alloc);
+    // A slice has too few moves for an overflow.
+    let mut steps: u128 = 0;
+    for x in moves {
+        text.push_str(&move_text(alloc, steps, x)?)?;
+        steps = steps_behind(steps, x);
+    }
+    text.push_str(&steps_text(alloc, steps)?)?;
+    Ok(text)
+}

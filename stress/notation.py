@@ -19,10 +19,7 @@ TOP = os.path.dirname(os.path.dirname(os.path.abspath(__file__)))
 VARIABLES = "nmkj"
 
 OPENING = (
-    "Rules with induction: from the first form of a line the run comes to the second one, whatever numbers stand for n, m, k "
-    "and j. A form is a tape from left to right with the head at < or >; * is any half tape, $ a blank one, and a word in "
-    "brackets stands as often as its exponent says. Behind it is the proof: numbers of steps, and rules with what stands for "
-    "n, m, k and j; by induction on n it is one for 0 and one for n+1, in which ih is the rule itself, for n.\n")
+    "Rules with induction: from the first form of a line the run comes to the second one, whatever n, m, k and j are.\n")
 
 
 def exponent(times):

@@ -6,13 +6,11 @@ use Rattle.kind_rules.specs.RuleTexts.{RuleTexts, given_by}
 use Rattle.cmd_explain.specs.Quantity.{sentence}
 use Rattle.cmd_explain.specs.Notation.{rule_lines, family_line, first_line}
 
-abbrev pub rules_opening : List ℕ
-rules_opening = codes "Rules with induction: from the first form of a line the run comes to the second one, whatever numbers stand for n, m, k and j. A form is a tape from left to right with the head at < or >; * is any half tape, $ a blank one, and a word in brackets stands as often as its exponent says. Behind it is the proof: numbers of steps, and rules with what stands for n, m, k and j; by induction on n it is one for 0 and one for n+1, in which ih is the rule itself, for n.\n"
-
 -- the certificate itself, in the notation of people
 unfoldable pub rules_words : Certificate → List ℕ
 rules_words c = sentence (
-    rules_opening ∷ rule_lines 0 c.rules ∷ family_line c ∷ first_line c
+    codes "Rules with induction: from the first form of a line the run comes to the second one, whatever n, m, k and j are.\n"
+    ∷ rule_lines 0 c.rules ∷ family_line c ∷ first_line c
     ∷ codes "So it comes to forms of H again and again, and never halts.\n" ∷ [])
 
 -- it is a certificate of the table, and the words are its own

@@ -1,6 +1,6 @@
 -- Forms of tape, rules and their proofs, as people write them: from left to right, `*` for any half tape and `$` for a blank
 -- one, a word in brackets as often as its exponent says, in the variables n, m, k and j.
-use Rattle.std.specs.Prelude.{ℕ, ◌+◌, ◌==◌, ◌&&◌, ◌||◌, not, nat_lt, if◌then◌else◌, Bool, true, false, List, [], ◌∷◌, ◌++◌, length, map, reverse, Option, Some, None, codes, decimal}
+use Rattle.std.specs.Prelude.{ℕ, ◌+◌, ◌==◌, ◌&&◌, ◌||◌, not, nat_lt, if◌then◌else◌, Bool, false, List, [], ◌∷◌, ◌++◌, length, map, reverse, Option, Some, None, codes, decimal}
 use Rattle.machine_text.specs.Limits.{state_limit}
 use Rattle.machine_text.specs.Text.{symbol_byte}
 use Rattle.machine_text.specs.declared.transition.Dir.{Dir}
@@ -145,7 +145,7 @@ family_line c = sentence (
 
 -- what stands for the variables at first
 unfoldable pub value_text : List ℕ → Exponent → List ℕ
-value_text variable e = sentence (codes " " ∷ variable ∷ codes "=" ∷ exponent_text e ∷ [])
+value_text variable e = 32 ∷ (variable ++ 61 ∷ exponent_text e)
 
 abbrev pub value_unless_none : List ℕ → Exponent → List ℕ
 value_unless_none variable e = if times_eq e never_once then [] else value_text variable e

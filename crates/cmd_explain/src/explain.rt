@@ -100,21 +100,3 @@ fn explain_record(alloc: Global, r: &Record, out: &mut Vec<u8>) -> Result<Outcom
     out.extend_from_slice(words.as_bytes())?;
     Ok(Outcome::Accepted)
 }
-
-#[cfg(test)]
-mod tests {
-    use super::*;
-    use std::test::Fail;
-
-    #[test]
-    fn a_halting_record_is_explained(rt: HostRuntime) -> Result<(), Fail> {
-        let mut out = Vec::new(rt.alloc());
-        let outcome = explain_line(rt.alloc(), Some(b"1RB1LB_1LA--- H 6 4"), &mut out)?;
-        assert!(rt; outcome == Outcome::Accepted);
-        let wanted =
-            "1RB1LB_1LA--- halts 6 ones 4\nIt halts after 6 steps, the halting step counted, with 4 ones on \
-                      its tape.\nIt halts in state B on the symbol 1, for which it has no entry.\n\n";
-        assert_eq!(rt; out.as_slice(), wanted.as_bytes());
-        Ok(())
-    }
-}

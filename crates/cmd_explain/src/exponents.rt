@@ -117,12 +117,7 @@ fn third_text(alloc: Global, c: Exponent, d: Exponent) -> Result<String, NoMemor
     format!(in alloc; ",{third}{rest}")
 }
 
-fn second_text(
-    alloc: Global,
-    b: Exponent,
-    c: Exponent,
-    d: Exponent,
-) -> Result<String, NoMemory>
+fn second_text(alloc: Global, b: Exponent, c: Exponent, d: Exponent) -> Result<String, NoMemory>
     ensures { IfOk result (λ text. string_bytes text ≡ second_text b c d) }
 {
     if is_never(b) && is_never(c) && is_never(d) {
@@ -145,11 +140,7 @@ pub(crate) fn given_text(alloc: Global, by: &Exponents) -> Result<String, NoMemo
 
 /// What stands for a variable at first.
 #[tactic(auto, unfolding(crate::specs::Notation::value_text))]
-pub(crate) fn value_text(
-    alloc: Global,
-    variable: &str,
-    times: Exponent,
-) -> Result<String, NoMemory>
+pub(crate) fn value_text(alloc: Global, variable: &str, times: Exponent) -> Result<String, NoMemory>
     ensures { IfOk result (λ text. string_bytes text ≡ value_text variable.now times) }
 {
     let value = exponent_text(alloc, times)?;

@@ -33,11 +33,8 @@ fn words(alloc: Global, c: &Unpacked) -> Result<String, NoMemory>
     let family = family_line(alloc, c)?;
     let first = first_line(alloc, c)?;
     format!(in alloc;
-        "Rules with induction: from the first form of a line the run comes to the second one, whatever numbers stand for \
-         n, m, k and j. A form is a tape from left to right with the head at < or >; * is any half tape, $ a blank one, \
-         and a word in brackets stands as often as its exponent says. Behind it is the proof: numbers of steps, and rules \
-         with what stands for n, m, k and j; by induction on n it is one for 0 and one for n+1, in which ih is the rule \
-         itself, for n.\n{rules}{family}{first}So it comes to forms of H again and again, and never halts.\n"
+        "Rules with induction: from the first form of a line the run comes to the second one, whatever n, m, k and j are.\n\
+         {rules}{family}{first}So it comes to forms of H again and again, and never halts.\n"
     )
 }
 

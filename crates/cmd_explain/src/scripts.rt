@@ -1,5 +1,5 @@
 // Proofs of rules, as people write them.
-ghost use Rattle.std.specs.Prelude.{◌≡◌, ◌++◌, IfOk, string_bytes};
+ghost use Rattle.std.specs.Prelude.{◌≡◌, ◌+◌, ◌^◌, ◌<◌, ◌≤◌, IfOk, string_bytes};
 ghost use Rattle.cmd_explain.specs.Notation.{again_text, move_text, proof_text, steps_behind, steps_text};
 
 use crate::exponents::{given_text, is_never};
@@ -19,12 +19,7 @@ fn steps_text(alloc: Global, steps: u128) -> Result<String, NoMemory>
 
 // The rule that is being proved.
 #[tactic(auto, unfolding(crate::specs::Notation::again_text))]
-fn again_text(
-    alloc: Global,
-    b: Exponent,
-    c: Exponent,
-    d: Exponent,
-) -> Result<String, NoMemory>
+fn again_text(alloc: Global, b: Exponent, c: Exponent, d: Exponent) -> Result<String, NoMemory>
     ensures { IfOk result (λ text. string_bytes text ≡ again_text b c d) }
 {
     if is_never(b) && is_never(c) && is_never(d) {
@@ -63,7 +58,8 @@ fn move_text(alloc: Global, steps: u128, x: &Move) -> Result<String, NoMemory>
 // How many steps are still to be written behind a move.
 fn steps_behind(steps: u128, x: &Move) -> u128
     requires { steps + 4294967296 < 2 ^ 128 }
-    ensures { result ≡ steps_behind steps x.now }
+    ensures is { result ≡ steps_behind steps x.now }
+    ensures most { result ≤ steps + 4294967295 }
 {
     match *x {
         Move::Steps(more) => steps + u128::from(more),

@@ -1,5 +1,5 @@
 // Forms of tape, as people write them.
-ghost use Rattle.std.specs.Prelude.{◌≡◌, ◌++◌, IfOk, map, string_bytes};
+ghost use Rattle.std.specs.Prelude.{◌≡◌, IfOk, false, map, string_bytes};
 ghost use Rattle.machine_text.specs.Text.{symbol_byte};
 ghost use Rattle.law_induction.specs.Words.{word_symbols};
 ghost use Rattle.kind_rules.specs.Views.{form_in};
@@ -87,10 +87,10 @@ fn head_text(alloc: Global, heading: Dir, state: u8) -> Result<String, NoMemory>
     }
 }
 
-fn end_text(open: bool) -> &'static str
-    ensures { result.now ≡ end_text open }
+fn end_text(is_open: bool) -> &'static str
+    ensures { result.now ≡ end_text is_open }
 {
-    if open { "*" } else { "$" }
+    if is_open { "*" } else { "$" }
 }
 
 /// A form between two ends.

@@ -77,35 +77,3 @@ pub fn check_json_line(
     append_object(alloc, &object, out)?;
     Ok(finding.outcome())
 }
-
-#[cfg(test)]
-mod tests {
-    use super::*;
-    use std::test::Fail;
-
-    #[test]
-    fn a_wrong_count_is_an_object(rt: HostRuntime) -> Result<(), Fail> {
-        let mut out = Vec::new(rt.alloc());
-        let line = Some(b"1RB1LB_1LA--- H 7 4".as_slice());
-        let outcome = check_json_line(rt.alloc(), false, 3, line, &mut out)?;
-        assert!(rt; outcome == Outcome::Refused);
-        let wanted =
-            "{\"code\":201,\"kind\":\"H\",\"line\":3,\"meaning\":\"it doesn't hold for the table\",\
-                      \"ones\":null,\"steps\":null,\"table\":\"1RB1LB_1LA---\",\
-                      \"text\":\"1RB1LB_1LA--- H 7 4\",\"verdict\":\"refused\"}\n";
-        assert_eq!(rt; out.as_slice(), wanted.as_bytes());
-        Ok(())
-    }
-
-    #[test]
-    fn other_bytes_are_escaped(rt: HostRuntime) -> Result<(), Fail> {
-        let mut out = Vec::new(rt.alloc());
-        let outcome = check_json_line(rt.alloc(), true, 1, Some(b"\x7f\x80\xff\""), &mut out)?;
-        assert!(rt; outcome == Outcome::Refused);
-        let wanted = "{\"code\":301,\"kind\":null,\"line\":1,\
-                      \"meaning\":\"there is no table before the first space\",\"ones\":null,\"steps\":null,\
-                      \"table\":null,\"text\":\"\x7f\\u0080\\u00ff\\\"\",\"verdict\":\"refused\"}\n";
-        assert_eq!(rt; out.as_slice(), wanted.as_bytes());
-        Ok(())
-    }
-}

@@ -175,23 +175,3 @@ fn but_last(bytes: &[u8]) -> &[u8]
     let len = bytes.len();
     if len > 0 { &bytes[..len - 1] } else { bytes }
 }
-
-#[cfg(test)]
-mod tests {
-    use super::*;
-    use std::test::Fail;
-
-    #[test]
-    fn a_halting_record_is_told(rt: HostRuntime) -> Result<(), Fail> {
-        let mut out = Vec::new(rt.alloc());
-        let outcome = explain_json_line(rt.alloc(), 1, Some(b"1RB1LB_1LA--- H 6 4"), &mut out)?;
-        assert!(rt; outcome == Outcome::Accepted);
-        let wanted =
-            "{\"code\":null,\"kind\":\"H\",\"line\":1,\"meaning\":null,\"ones\":4,\"steps\":6,\
-                      \"table\":\"1RB1LB_1LA---\",\"text\":\"1RB1LB_1LA--- H 6 4\",\"verdict\":\"halts\",\
-                      \"words\":\"It halts after 6 steps, the halting step counted, with 4 ones on its tape.\\n\
-                      It halts in state B on the symbol 1, for which it has no entry.\\n\"}\n";
-        assert_eq!(rt; out.as_slice(), wanted.as_bytes());
-        Ok(())
-    }
-}

@@ -20,7 +20,7 @@ impl Times {
         factor: 0,
     };
 
-    // So often, whatever the variable is.
+    // Without the variable.
     pub fn of(number: u64) -> Times {
         Times { number, factor: 0 }
     }

@@ -89,7 +89,7 @@ fn is_earlier(list: &[TapeRecord], stride: usize, back: usize) -> bool {
 pub(crate) struct Shapes {
     symbols: Vec<Sym>,
     blocks: Vec<Block>,
-    // Those of the first one, the nearest first, each with what is added from one tape to the next.
+    // The first one's, the nearest first, each with what is added from one tape to the next.
     shape: Vec<Block>,
 }
 

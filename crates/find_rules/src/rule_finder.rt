@@ -61,7 +61,7 @@ impl RuleFinder {
         self.search_by(t, self.tries)
     }
 
-    /// The same within so many tries, whichever are the finder's.
+    /// Rules for a table as `search` gives them, within so many tries, whichever are the finder's.
     pub fn search_by(&mut self, t: &Table, tries: u64) -> Result<Option<OwnedRules>, NoMemory> {
         self.run.restart();
         let mut time = FIRST_STEPS;

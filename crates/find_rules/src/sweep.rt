@@ -5,8 +5,8 @@ use crate::word::Word;
 use machine_text::{Dir, State, Sym, Table};
 use std::alloc::{AllocError as NoMemory, Global};
 
-// That a table, in a state before copies of a word, with some symbols behind the head, comes to their end in the same state
-// with the same symbols behind the head, and has left another word for each copy. All words are read from the head on.
+// What a table does: in a state before copies of a word, with some symbols behind the head, it comes to their end in the same
+// state with the same symbols behind the head, and has left another word for each copy. Words are read from the head on.
 #[derive(Clone, Copy, Debug, PartialEq, Eq)]
 pub(crate) struct Sweep {
     pub state: State,

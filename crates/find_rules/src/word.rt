@@ -33,7 +33,7 @@ impl Word {
         self.length
     }
 
-    // Its symbol at a place; a blank past its end.
+    // The symbol at a place; a blank past the word's end.
     pub fn symbol(self, place: u32) -> Sym {
         if self.bits >> place.min(63) & 1 == 1 {
             Sym::One
@@ -67,7 +67,7 @@ impl Word {
         }
     }
 
-    // So often, one behind another.
+    // The word so many times, one behind another.
     pub fn power(self, copies: u64) -> Option<Word> {
         if copies > u64::from(LONGEST_WORD) {
             return None;

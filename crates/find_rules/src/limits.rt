@@ -34,10 +34,11 @@ pub(crate) const SHORT_WORDS: usize = 12;
 
 pub(crate) const LONG_WORDS: usize = 40;
 
-// For each step of the run so far: the most moves of a loop, and the most steps of all sweeps that are tried for it.
-pub(crate) const MOVES: u64 = 4;
+// How many steps the run so far has for each move that a loop may take; and how many steps of sweeps are tried for a loop
+// for each step of the run.
+pub(crate) const STEPS_A_MOVE: u64 = 2;
 
-pub(crate) const SWEEP_STEPS: u64 = 20;
+pub(crate) const SWEEP_STEPS: u64 = 10;
 
 // The most symbols of a half tape that are compared.
 pub(crate) const MAX_COMPARED: usize = 20_000;

@@ -1,7 +1,7 @@
 // Rules and scripts for a family.
 use crate::block::{Block, Change, Times};
 use crate::half::{Half, cut_blanks};
-use crate::limits::{LONGEST_WORD, MAX_CONTEXT, MAX_SCALE, MOVES, SWEEP_STEPS};
+use crate::limits::{LONGEST_WORD, MAX_CONTEXT, MAX_SCALE, STEPS_A_MOVE, SWEEP_STEPS};
 use crate::recorded_run::TapeRecord;
 use crate::script::Script;
 use crate::stop::Stop;
@@ -74,7 +74,7 @@ impl Prover {
         self.script.restart(state, side);
         let half = self.script.half_mut(behind);
         half.copy_changed(&self.first, Change::Multiple(1))?;
-        for _ in 0..effort.saturating_mul(MOVES) {
+        for _ in 0..effort / STEPS_A_MOVE {
             if self.has_arrived(state, side)? {
                 self.script.arrive(behind, &self.next)?;
                 return self.script.flush();

@@ -89,7 +89,7 @@ pub(crate) const STAGES: [Stage; 20] = [
         first: 20_000,
         steps: 20_000,
     },
-    Stage::Rules { tries: 5 },
+    Stage::Rules { tries: 4 },
     Stage::FurtherWords,
     automata!(12, 2_000),
     automata!(8, 2_000),

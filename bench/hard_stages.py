@@ -40,6 +40,7 @@ def said(match):
         "Cycles": lambda: "cycles by time 10,000,000",
         "TranslatedCycles": lambda: "translated cycles by time 10,000,000",
         "Counted": lambda: "counted automata of up to 12 counts, learned from 2,000 steps",
+        "Rules": lambda: f"rules with induction, {fields[0]} tries",
     }[name]()
 
 

@@ -1,4 +1,4 @@
-//! What bb check does for records of all kinds but N and P, in plain Rust, from docs/FORMATS.md: the judges of this folder, each
+//! What bb check does for records of all kinds but N, R and P, in plain Rust, from docs/FORMATS.md: the judges of this folder, each
 //! for its kind. Build with `rustc --edition 2021 -O plain_check.rs`. Reads records from standard input; a record that isn't accepted
 //! is `TABLE refused`.
 #[allow(dead_code)]

@@ -2,7 +2,8 @@
 """The tree of six states, by a sample: bench/six.py [COUNT [SEED ..]] draws tables with weights (bench/sample_six.rs), COUNT or
 more for each seed (1,000,000, and the seeds 1 to 5, if not said), gives them to `bb decide --hard`, and prints the rows of
 docs/SIX.md: how large the tree is by that, how many tables of a million there are of each kind, what is left, microseconds and
-bytes a table. Each record is judged again, by `bb check` and by the plain judges of this folder (bench/plain_check.rs). What is left
+bytes a table. Each record is judged again, by `bb check` and by the plain judges of this folder (bench/plain_check.rs), or by
+stress/induction.py, which judges rules. What is left
 goes to FILE where LEFT=FILE is in the environment, with weights.
 """
 import collections
@@ -11,9 +12,10 @@ import sys
 import tempfile
 
 from measured import built, run
-from program import PROGRAM
+from program import PROGRAM, TOP
 
-KINDS = "HCTBFAWU"
+KINDS = "HCTBFAWRU"
+INDUCTION = [sys.executable, os.path.join(TOP, "stress", "induction.py"), "judge"]
 
 
 def drawn(sampler, seed, count):
@@ -29,13 +31,21 @@ def is_accepted(answers, records):
                for answer, record in pairs)
 
 
+def are_judged(judge, records):
+    """Whether the judges outside of the program accept each record."""
+    rules = [record for record in records if b" R " in record]
+    others = [record for record in records if b" R " not in record]
+    return all(is_accepted(run(command, b"".join(record + b"\n" for record in some))[1], some)
+               for command, some in (([judge], others), (INDUCTION, rules)))
+
+
 def of_seed(sampler, judge, seed, count):
     """Prints the row of a seed; the tables that are left, with their weights."""
     sample = drawn(sampler, seed, count)
     tables = b"".join(table + b"\n" for table, _ in sample)
     seconds, out = run([PROGRAM, "decide", "--hard"], tables)
     records = out.split(b"\n")[:-1]
-    if not is_accepted(run([PROGRAM, "check"], out)[1], records) or not is_accepted(run([judge], out)[1], records):
+    if not is_accepted(run([PROGRAM, "check"], out)[1], records) or not are_judged(judge, records):
         sys.exit("a record isn't accepted")
     whole = sum(weight for _, weight in sample)
     shares, size, left = collections.Counter(), 0.0, []

@@ -18,6 +18,7 @@ pub record IsWithinRange (s : Search) : Type 0 where
   pub far : s.far ≤ 16
   pub words : s.words ≤ 11
   pub count : s.count ≤ 12
+  pub rules : s.rules ≤ 7
 
 pub record IsBeginning (b : Beginning) : Type 0 where
   pub some_states : 1 ≤ b.states

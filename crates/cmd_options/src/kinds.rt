@@ -53,8 +53,13 @@ pub const WORDS: Number = ranged! { name: "words", value: Some("W"), least: 0, m
 pub const COUNT: Number = ranged! { name: "count", value: Some("C"), least: 0, most: 12, default: Some("0"),
     help: "Most counts of counted automata; 0 for none" };
 
+/// How often the run is looked at for rules.
+#[rattlefmt::skip]
+pub const RULES: Number = ranged! { name: "rules", value: Some("R"), least: 0, most: 7, default: Some("0"),
+    help: "Tries to find rules with induction, each on a run four times as long; 0 for none" };
+
 /// The options that say how far the certificates of a kind are searched for, in the order in which help has them.
-pub const REACHES: [Number; 5] = [DEPTH, GRAM, FAR, WORDS, COUNT];
+pub const REACHES: [Number; 6] = [DEPTH, GRAM, FAR, WORDS, COUNT, RULES];
 
 /// The names of the options that say how far certificates are searched for.
-pub const REACH_NAMES: &[&str] = &["depth", "gram", "far", "words", "count"];
+pub const REACH_NAMES: &[&str] = &["depth", "gram", "far", "words", "count", "rules"];

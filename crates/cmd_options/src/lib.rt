@@ -18,7 +18,7 @@ mod version;
 pub use drawing::Drawing;
 pub use ended::Ended;
 pub use ends::{ended_by, told};
-pub use kinds::{COUNT, DEPTH, FAR, GRAM, LETTERS, REACH_NAMES, REACHES, WORDS, kind_label};
+pub use kinds::{COUNT, DEPTH, FAR, GRAM, LETTERS, REACH_NAMES, REACHES, RULES, WORDS, kind_label};
 pub use ledger_file::{Durability, LedgerFile};
 pub use number::Number;
 pub use options::{

@@ -8,7 +8,7 @@ pub enum Options<'a> {
     /// `bb check [--json] [--why]`
     Check(Checking),
     /// `bb decide [--json] [--progress] [--known FILE] [--steps K] [--depth D] [--gram G] [--far M] [--words W]
-    /// [--count C] [--hard]`
+    /// [--count C] [--rules R] [--hard]`
     Decide(Deciding<'a>),
     /// `bb explain [--json]`
     Explain {
@@ -270,6 +270,8 @@ pub struct Search<'a> {
     pub words: u64,
     /// The most counts of counted automata: 0 to 12, where 0 asks for none.
     pub count: u64,
+    /// How often a run is looked at for rules with induction: 0 to 7, where 0 asks for none.
+    pub rules: u64,
     /// Whether it goes by stages of its own, from cheap searches to dear ones, which `steps` scales; the other numbers
     /// aren't used then.
     pub hard: bool,

@@ -333,7 +333,8 @@ pub(crate) const DECIDE: &str = "  $ echo 1RB1LB_1LA--- | bb decide
 
 A line is a table in the bbchallenge standard format. Its record has the first certificate that is
 found and stands, looked for in this order: that it halts, a cycle, a translated cycle, backward
-reasoning, a closed position set, finite automata, automata from words, counted automata; or `U`, undecided.
+reasoning, a closed position set, finite automata, automata from words, counted automata,
+rules with induction; or `U`, undecided.
 First of all comes what is known: with --known the file's record of the table, where that stands. How many of the
 file's lines were refused, and which was the first, is said on standard error at the end.
 A text that is no table is answered `refused 301` with its fault, as by `bb check`, and a line over 65,536 bytes
@@ -346,7 +347,7 @@ second.
 
 Loops are looked for within 10,000,000 steps at most. Words of n-grams are tried by width from 1 on, automata by
 stages (docs/FINDERS.md); --count is of both sides together. --hard has its own stages, and isn't given with --depth,
---gram, --far, --words or --count.
+--gram, --far, --words, --count or --rules.
 The file of --known is read once, before anything else; its lines stand in any order, and of each table the first
 counts that is a record of it and claims something. One that doesn't stand is forgotten, and the search goes on. At a
 terminal the first line that is a record is named at the end.

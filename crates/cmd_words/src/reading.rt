@@ -16,8 +16,8 @@ use clap::{ArgMatches, Error};
 use cmd_options::{
     Beginning, COUNT, Carrying, Checking, DEPTH, Deciding, Drawing, Durability, FAR, GRAM, Joining,
     LedgerFile, LedgerSettling, Listening, Listing, Looking, Mending, Merging, NoMemory, Number,
-    Options, Paging, Reporting, Retrying, Saving, Search, Settling, Showing, Splitting, WORDS,
-    Walking, Working,
+    Options, Paging, RULES, Reporting, Retrying, Saving, Search, Settling, Showing, Splitting,
+    WORDS, Walking, Working,
 };
 use std::alloc::Global;
 
@@ -138,6 +138,7 @@ fn search_of<'a>(matches: &ArgMatches<'a>) -> Result<Search<'a>, LineFault>
         far: number_of(matches, FAR)?,
         words: number_of(matches, WORDS)?,
         count: number_of(matches, COUNT)?,
+        rules: number_of(matches, RULES)?,
         hard: matches.get_flag(HARD.name),
     })
 }

@@ -7,6 +7,7 @@ use cert::{Decided, Finder, Finders, OwnedCertificate, OwnedRecord};
 use cmd_options::{Ended, LETTERS, Search};
 use far::FarFinder;
 use find_counted::CountedFinder;
+use find_rules::RuleFinder;
 use find_words::WordFinder;
 use kind_evidence::NoMemory;
 use loops::{CycleFinder, TranslatedFinder};
@@ -27,6 +28,7 @@ pub enum AnyFinder<'a> {
     Far(FarFinder),
     Listed(WordFinder),
     Counted(CountedFinder),
+    Rules(RuleFinder),
     Hard(HardFinder),
 }
 
@@ -45,6 +47,7 @@ impl Finder for AnyFinder<'_> {
             AnyFinder::Far(finder) => finder.find(t, budget),
             AnyFinder::Listed(finder) => finder.find(t, budget),
             AnyFinder::Counted(finder) => finder.find(t, budget),
+            AnyFinder::Rules(finder) => finder.find(t, budget),
             AnyFinder::Hard(finder) => finder.find(t, budget),
         }
     }
@@ -68,6 +71,7 @@ impl Finder for AnyFinder<'_> {
             AnyFinder::Far(finder) => finder.find_shown(alloc, t, budget),
             AnyFinder::Listed(finder) => finder.find_shown(alloc, t, budget),
             AnyFinder::Counted(finder) => finder.find_shown(alloc, t, budget),
+            AnyFinder::Rules(finder) => finder.find_shown(alloc, t, budget),
             AnyFinder::Hard(finder) => finder.find_shown(alloc, t, budget),
         }
     }
@@ -141,8 +145,8 @@ fn finder_of<'a>(alloc: Global, letter: u8, search: &Search<'_>) -> Option<AnyFi
         // Without counts there are automata too, but 0 asks for none.
         b'W' if search.count == 0 => None,
         b'W' => Some(AnyFinder::Counted(CountedFinder::new(alloc, search.count))),
-        // Rules come from people's hands, or from other programs.
-        b'R' => None,
+        b'R' if search.rules == 0 => None,
+        b'R' => Some(AnyFinder::Rules(RuleFinder::new(alloc, search.rules))),
         // A hard search alone looks tables up: of one of them the check takes half a minute.
         b'P' => None,
         _ => None,

@@ -10,6 +10,7 @@ use cert::{Decided, Finder, OwnedCertificate};
 use far::{FarFinder, OwnedFar};
 use find_automata::Stage as Automata;
 use find_counted::CountedFinder;
+use find_rules::RuleFinder;
 use find_words::{WORD_STAGES, WordFinder, WordStage};
 use kind_evidence::NoMemory;
 use loops::{CycleFinder, MAX_TIME, TranslatedFinder};
@@ -30,6 +31,7 @@ pub struct HardFinder {
     cycle: CycleFinder,
     translated: TranslatedFinder,
     counted: CountedFinder,
+    rules: RuleFinder,
     // whether what was found last was found behind the first stages
     was_late: bool,
 }
@@ -48,6 +50,8 @@ impl HardFinder {
             cycle: CycleFinder::new(alloc, MAX_TIME),
             translated: TranslatedFinder::new(alloc, MAX_TIME),
             counted: CountedFinder::new(alloc, COUNTS),
+            // The stages say how many tries it has.
+            rules: RuleFinder::new(alloc, 0),
             was_late: false,
         })
     }
@@ -72,6 +76,7 @@ impl HardFinder {
             Stage::Cycles => self.cycle.find(t, MAX_TIME)?,
             Stage::TranslatedCycles => self.translated.find(t, MAX_TIME)?,
             Stage::Counted => self.counted.find(t, budget)?,
+            Stage::Rules { tries } => self.ask_for_rules(t, tries)?,
         };
         match found {
             Some(certificate) => Decided::by(self.alloc, t, certificate),
@@ -99,6 +104,18 @@ impl HardFinder {
     {
         match self.words.search_by(t, stages)? {
             Some(found) => Ok(Some(found.into_decided(self.alloc, t)?)),
+            None => Ok(None),
+        }
+    }
+
+    // What rules with induction show.
+    fn ask_for_rules(
+        &mut self,
+        t: &Table,
+        tries: u64,
+    ) -> Result<Option<OwnedCertificate>, NoMemory> {
+        match self.rules.search_by(t, tries)? {
+            Some(rules) => Ok(Some(OwnedCertificate::Rules(Box::new(self.alloc, rules)?))),
             None => Ok(None),
         }
     }

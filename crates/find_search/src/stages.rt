@@ -25,6 +25,8 @@ pub(crate) enum Stage {
     TranslatedCycles,
     // Counted automata of at most so many counts.
     Counted,
+    // Rules with induction, in so many tries.
+    Rules { tries: u64 },
 }
 
 // Backward reasoning goes so far.
@@ -68,7 +70,7 @@ macro_rules! automata {
 pub(crate) const FIRST_STAGES: usize = 8;
 
 // The stages, in their order.
-pub(crate) const STAGES: [Stage; 18] = [
+pub(crate) const STAGES: [Stage; 20] = [
     Stage::Names,
     Stage::Loops {
         first: 50,
@@ -87,11 +89,13 @@ pub(crate) const STAGES: [Stage; 18] = [
         first: 20_000,
         steps: 20_000,
     },
+    Stage::Rules { tries: 4 },
     Stage::FurtherWords,
     automata!(12, 2_000),
     automata!(8, 2_000),
     automata!(10, 2_000),
     automata!(15, 4_000),
+    Stage::Rules { tries: 7 },
     Stage::Halting,
     Stage::Cycles,
     Stage::TranslatedCycles,

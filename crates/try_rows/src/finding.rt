@@ -6,6 +6,7 @@ use cert::{Certificate, Finder, OwnedCertificate, OwnedRecord, Record, decide};
 use far::FarFinder;
 use find_automata::{AutomataSearch, STAGES, Stage};
 use find_counted::CountedFinder;
+use find_rules::RuleFinder;
 use find_words::WordFinder;
 use kind_evidence::{Evidence, NoMemory, side_text};
 use loops::{CycleFinder, TranslatedFinder};
@@ -26,6 +27,7 @@ pub enum Seeker {
     Far(FarFinder),
     Listed(WordFinder),
     Counted(CountedFinder),
+    Rules(RuleFinder),
 }
 
 impl Seeker {
@@ -40,6 +42,7 @@ impl Seeker {
             b'F' => Some(Seeker::Far(FarFinder::new(alloc, limit))),
             b'A' => Some(Seeker::Listed(WordFinder::new(alloc, limit))),
             b'W' => Some(Seeker::Counted(CountedFinder::new(alloc, limit))),
+            b'R' => Some(Seeker::Rules(RuleFinder::new(alloc, limit))),
             _ => None,
         }
     }
@@ -56,6 +59,7 @@ impl Finder for Seeker {
             Seeker::Far(finder) => finder.find(t, budget),
             Seeker::Listed(finder) => finder.find(t, budget),
             Seeker::Counted(finder) => finder.find(t, budget),
+            Seeker::Rules(finder) => finder.find(t, budget),
         }
     }
 }

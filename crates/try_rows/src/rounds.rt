@@ -64,6 +64,7 @@ fn ran(alloc: Global, rounds: u64, lose: Option<u64>, workers: Vec<Probe<'_>>) -
             far: 2,
             words: 0,
             count: 0,
+            rules: 0,
             hard: false,
         },
         json: false,

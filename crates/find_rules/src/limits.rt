@@ -1,0 +1,51 @@
+// How large what is found may be, and how long it is looked for.
+
+// The most symbols of a word in a record.
+pub(crate) const LONGEST_WORD: u32 = 63;
+
+// The most steps of one move in a record.
+pub(crate) const LONGEST_MOVE: u64 = 10_000;
+
+// The most tries.
+pub(crate) const MAX_TRIES: u64 = 7;
+
+// After how many steps the run is looked at first; each later try goes on to four times as many.
+pub(crate) const FIRST_STEPS: u64 = 500;
+
+// The most cells of all tapes that a run keeps at its records.
+pub(crate) const MAX_KEPT_CELLS: usize = 8_000_000;
+
+// The most records of one side and state between two members of a family.
+pub(crate) const MAX_STRIDE: usize = 64;
+
+// How many families of one try are looked at.
+pub(crate) const MAX_FAMILIES: usize = 12;
+
+// How many members of a family are tried as the first one.
+pub(crate) const MAX_STARTS: u64 = 40;
+
+// The greatest number of members that one turn of a loop may take.
+pub(crate) const MAX_SCALE: u64 = 12;
+
+// The least copies of a word that make a block, and the longest word that is looked for, first and then.
+pub(crate) const LEAST_COPIES: usize = 4;
+
+pub(crate) const SHORT_WORDS: usize = 12;
+
+pub(crate) const LONG_WORDS: usize = 40;
+
+// How many steps the run so far has for each move that a loop may take; and how many steps of sweeps are tried for a loop
+// for each step of the run.
+pub(crate) const STEPS_A_MOVE: u64 = 2;
+
+pub(crate) const SWEEP_STEPS: u64 = 10;
+
+// The most symbols of a half tape that are compared.
+pub(crate) const MAX_COMPARED: usize = 20_000;
+
+// Of a sweep: the most symbols behind the head, copies of the word, and steps over them.
+pub(crate) const MAX_CONTEXT: u32 = 24;
+
+pub(crate) const MAX_COPIES: u64 = 8;
+
+pub(crate) const MAX_SWEEP_STEPS: u64 = 1_000;

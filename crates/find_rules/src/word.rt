@@ -1,0 +1,133 @@
+// Words of symbols.
+use crate::limits::LONGEST_WORD;
+use machine_text::Sym;
+
+// A word of up to 63 symbols, the first of them in the lowest bit.
+#[derive(Clone, Copy, Debug, PartialEq, Eq)]
+pub(crate) struct Word {
+    length: u32,
+    bits: u64,
+}
+
+impl Word {
+    pub const EMPTY: Word = Word { length: 0, bits: 0 };
+
+    // The word of one symbol.
+    pub fn of(symbol: Sym) -> Word {
+        Word {
+            length: 1,
+            bits: symbol as u64,
+        }
+    }
+
+    // So many blanks, and no more than fit.
+    pub fn blanks(count: u64) -> Word {
+        Word {
+            length: count.min(u64::from(LONGEST_WORD)) as u32,
+            bits: 0,
+        }
+    }
+
+    // How many symbols it has.
+    pub fn length(self) -> u32 {
+        self.length
+    }
+
+    // The symbol at a place; a blank past the word's end.
+    pub fn symbol(self, place: u32) -> Sym {
+        if self.bits >> place.min(63) & 1 == 1 {
+            Sym::One
+        } else {
+            Sym::Zero
+        }
+    }
+
+    // With one more symbol behind it.
+    pub fn pushed(self, symbol: Sym) -> Option<Word> {
+        self.then(Word::of(symbol))
+    }
+
+    // With another one behind it.
+    pub fn then(self, other: Word) -> Option<Word> {
+        let length = self.length.saturating_add(other.length);
+        if length > LONGEST_WORD {
+            return None;
+        }
+        Some(Word {
+            length,
+            bits: self.bits | other.bits << self.length.min(63),
+        })
+    }
+
+    // So many symbols of it, from a place on.
+    pub fn part(self, start: u32, length: u32) -> Word {
+        Word {
+            length: length.min(LONGEST_WORD),
+            bits: self.bits >> start.min(63) & lowest(length),
+        }
+    }
+
+    // The word so many times, one behind another.
+    pub fn power(self, copies: u64) -> Option<Word> {
+        if copies > u64::from(LONGEST_WORD) {
+            return None;
+        }
+        let mut whole = Word::EMPTY;
+        for _ in 0..copies {
+            whole = whole.then(self)?;
+        }
+        Some(whole)
+    }
+
+    // So many of its first symbols come last.
+    pub fn turned(self, count: u32) -> Word {
+        let rest = self.part(count, self.length.saturating_sub(count));
+        match rest.then(self.part(0, count.min(self.length))) {
+            Some(word) => word,
+            None => self,
+        }
+    }
+
+    // The shortest word that it repeats.
+    pub fn root(self) -> Word {
+        for period in 1..self.length {
+            if self.repeats(period) {
+                return self.part(0, period);
+            }
+        }
+        self
+    }
+
+    // Whether it is its first symbols, so many, again and again.
+    fn repeats(self, period: u32) -> bool {
+        if period == 0 || period > self.length || self.length % period != 0 {
+            return false;
+        }
+        (self.bits >> period.min(63) ^ self.bits) & lowest(self.length - period) == 0
+    }
+
+    // How often it is the other one.
+    pub fn copies_of(self, other: Word) -> Option<u64> {
+        if other.length == 0 || !self.repeats(other.length) {
+            return None;
+        }
+        if self.part(0, other.length) != other {
+            return None;
+        }
+        Some(u64::from(self.length / other.length))
+    }
+
+    // Whether all its symbols are blanks.
+    pub fn is_blank(self) -> bool {
+        self.bits == 0
+    }
+}
+
+// So many of the lowest bits.
+fn lowest(count: u32) -> u64 {
+    if count > 63 {
+        u64::MAX
+    } else {
+        !(u64::MAX << count)
+    }
+}

@@ -1,5 +1,5 @@
 -- What is so of every board: its tables stand in the tree of its root, and which of them are open or holdouts.
-use Rattle.std.proofs.Common.{◌≡◌, ◌≢◌, Bool, true, false, ℕ, ◌+◌, ◌≤◌, List, [], ◌∷◌, Option, Some, None, option_map, refl, sym, ◌∙◌, ap, subst, map, length, get_or, nat_eq, arith, IfOk, Result, Ok, Err}
+use Rattle.std.proofs.Common.{◌≡◌, ◌≢◌, Bool, true, false, ℕ, ◌+◌, ◌≤◌, List, [], ◌∷◌, Option, Some, None, option_map, refl, sym, ◌∙◌, ap, subst, map, length, get_or, nat_eq, arith}
 use Rattle.std.specs.List.{Contains, AllPairs, filter, filter_map}
 use Rattle.std.specs.List.Sorted.{IsPermutation, IsSorted, IsStrictlySortedBy}
 use Rattle.std.specs.BTreeMap.{BTreeMap, keys}

@@ -1,4 +1,4 @@
-use Rattle.std.proofs.Common.{List, length, Option, sym, ◌<◌, ◌^◌, ◌∙◌, ap, subst}
+use Rattle.std.proofs.Common.{List, Option, sym, ◌∙◌, ap, subst}
 use Rattle.machine_text.specs.Packed.{Packed}
 use Rattle.kind_evidence.specs.declared.verdicts.Ending.{Ending}
 use Rattle.cert.specs.Claim.{Recorded, ending_by}

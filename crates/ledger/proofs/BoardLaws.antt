@@ -1,5 +1,5 @@
 -- What is so of every board: its tables stand in the tree of its root, and which of them are open or holdouts.
-use Rattle.std.proofs.Common.{◌≡◌, ◌≢◌, Bool, true, false, ℕ, ◌+◌, ◌≤◌, List, [], ◌∷◌, Option, Some, None, option_map, refl, sym, ◌∙◌, ap, subst, map, length, get_or, nat_eq, arith, IfOk, Result, Ok, Err}
+use Rattle.std.proofs.Common.{◌≡◌, ◌≢◌, Bool, true, false, ℕ, ◌+◌, ◌≤◌, List, [], ◌∷◌, Option, Some, None, option_map, refl, sym, ◌∙◌, ap, subst, map, length, get_or, nat_eq, arith}
 use Rattle.std.specs.List.{Contains, AllPairs, filter, filter_map}
 use Rattle.std.specs.List.Sorted.{IsPermutation, IsSorted, IsStrictlySortedBy}
 use Rattle.std.specs.BTreeMap.{BTreeMap, keys}
@@ -101,11 +101,6 @@ pub nodes_counted : (b : Contents) (root : Packed) (es : List (Packed × StoredR
 nodes_counted b root es format n m k view is all =
     let count : length b.records ≡ length es = ap (λ (c : Contents). length c.records) (sym view) ∙ length-map es entry_recorded in
     omega (arith, count, is, all)
-
--- what is so of a value by two clauses is so of it in an answer
-pub if_both : {T E : Type 0} {P Q S : T → Type 0} (r : Result T E) → ((t : T) → P t → Q t → S t) → IfOk r P → IfOk r Q → IfOk r S
-if_both (Ok t) f p q = f t p q
-if_both (Err e) f p q = tt
 
 -- the champions, as the code lists them
 champions_listed : (number : Recorded → Option ℕ) (best : ℕ) (rs : List Recorded) → filter_map (λ (r : Recorded). champion_by best (number r) r.table) rs ≡ map (λ (r : Recorded). r.table) (filter (λ (r : Recorded). is_steps best (number r)) rs)

@@ -159,28 +159,29 @@ module _ (root : Packed) (es new : List (Packed × StoredRecord)) (r : Recorded)
       (λ q. new_child_is root board.is_table (records_of es) ready.had (records_of new) r ready.taken in_tree q) number
 
   -- its change may be made
-  module _ (opens : ℕ) (is : opens ≡ length tables.entries) (sorted : IsStrictlySortedBy table_cmp (keys tables)) (few : opened < 2 ^ 63) (small : opens < 2 ^ 63) (short : length es < 2 ^ 63) where
+  module _ (opens : ℕ) (is : opens ≡ length tables.entries) (sorted : IsStrictlySortedBy table_cmp (keys tables)) (few : opens + opened < 2 ^ 32) where
     open_ones : AreSoMany (IsOpen root (mark_in (records_of es))) opens
     open_ones = open_number (record { root = root; records = records_of es; format = Two }) tables opens stored.1 is sorted
 
     held_ones : AreSoMany (IsHoldout (records_of es)) (length (filter is_undecided (records_of es)))
     held_ones = holdout_number (records_of es) (held_apart root (records_of es) board.held)
 
-    under : length (filter is_undecided (records_of es)) < 2 ^ 63
-    under = omega (arith, number_within is_undecided (records_of es), length-map es entry_recorded, short)
+    under : place ≡ length es → length (filter is_undecided (records_of es)) + 1 < 2 ^ 32
+    under last = let small = put.small in omega (arith, number_within is_undecided (records_of es), length-map es entry_recorded, last, small)
 
-    room : (w : Waiting) → WaitsFor root (records_of es) r w → (p : Packed) (n : TreeCount) → InTableTree p r.table → IsTreeCount root (records_of es) p n
+    room : (w : Waiting) → WaitsFor root (records_of es) r w → IsSlot es r.table w (record { place = place; parent = k.parent; tree = k.tree })
+        → (p : Packed) (n : TreeCount) → InTableTree p r.table → IsTreeCount root (records_of es) p n
         → MayChange n (change_of w opened (ending_by r.claim) (score_by r.claim))
-    room (Open opener) waits p n inside count = taken_room root board.is_table (records_of es) ready.had (records_of new) r ready.taken in_tree p inside
-        n opened opens (length (filter is_undecided (records_of es))) waits.0 new_ones few open_ones small held_ones under count
-    room Holdout waits p n inside count = settled_room root board.is_table (records_of es) ready.had (records_of new) r ready.taken in_tree p inside
-        n opened opens (length (filter is_undecided (records_of es))) waits.0 waits.1 few open_ones small held_ones under count
+    room (Open opener) waits slot p n inside count = taken_room root board.is_table (records_of es) ready.had (records_of new) r ready.taken in_tree p inside
+        n opened opens (length (filter is_undecided (records_of es))) put.certified waits.0 new_ones open_ones few held_ones (under slot.0) count
+    room Holdout waits slot p n inside count = settled_room root board.is_table (records_of es) ready.had (records_of new) r ready.taken in_tree p inside
+        n opened opens put.certified waits.0 waits.1 open_ones few count
 
     pub put_carries : CarriesUp new place (change_of waiting opened (ending_by r.claim) (score_by r.claim))
     put_carries = record {
       there = ready_there root (records_of es) new r place ready;
       earlier = ready_earlier root (records_of es) new r place ready;
-      room = ready_room root (records_of es) new r place ready (change_of waiting opened (ending_by r.claim) (score_by r.claim)) (room waiting put.waits);
+      room = ready_room root (records_of es) new r place ready (change_of waiting opened (ending_by r.claim) (score_by r.claim)) (room waiting put.waits put.slot);
     }
 
   counted : (w : Waiting) → WaitsFor root (records_of es) r w → (p : Packed) (n : TreeCount) → InTableTree p r.table → IsTreeCount root (records_of es) p n

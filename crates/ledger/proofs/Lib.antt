@@ -1,3 +1,4 @@
+pub mod SmallNumbers
 pub mod Apart
 pub mod Same
 pub mod Claims

@@ -7,6 +7,7 @@ use Rattle.kind_evidence.specs.declared.verdicts.Ending.TheVariants.{Halts, Neve
 use Rattle.law_tree.specs.Closed.{Mark, Halting, Holdout, IsOpen, IsGreatestRecorded}
 use Rattle.law_tree.specs.Tables.{IsChildTable, InTableTree, Itself, OfChild}
 use Rattle.law_tree.proofs.TableLaws.{tree_alike, tree_table_child, one_table_parent}
+use Rattle.cert.specs.Certified.{IsCertified}
 use Rattle.cert.specs.Claim.{Claim, Recorded, ending_by, score_by}
 use Rattle.ledger.specs.Records.{same_table, claim_in, mark_in, mark_of, mark_by}
 use Rattle.ledger.specs.Held.{HasScore, IsHoldout}
@@ -23,6 +24,7 @@ use Rattle.ledger.proofs.Numbers.{halting_steps, halts_after}
 use Rattle.ledger.proofs.Ones.{ones_after, ones_now}
 use Rattle.ledger.proofs.OpenLaws.{IsTaken, open_taken}
 use Rattle.ledger.proofs.Same.{same_is, apart}
+use Rattle.ledger.proofs.SmallNumbers.{certified_small}
 
 -- the greatest number recorded in a tree, said of tables
 abbrev HaltsBelow : (Packed → Option Mark) → Packed → ℕ → Packed → Type 0
@@ -269,28 +271,43 @@ module _ (root : Packed) (is_table : IsTable root) (old : List Recorded) (parent
       }
 
       -- there is room for the change
-      pub taken_room : (n : TreeCount) (opened opens records : ℕ) → IsOpen root (mark_in old) r.table → AreSoMany (IsNewChild old r) opened → opened < 2 ^ 63
-          → AreSoMany (IsOpen root (mark_in old)) opens → opens < 2 ^ 63 → AreSoMany (IsHoldout old) records → records < 2 ^ 63 → IsTreeCount root old p n
+      pub taken_room : (n : TreeCount) (opened opens records : ℕ) → IsCertified r → IsOpen root (mark_in old) r.table → AreSoMany (IsNewChild old r) opened
+          → AreSoMany (IsOpen root (mark_in old)) opens → opens + opened < 2 ^ 32 → AreSoMany (IsHoldout old) records → records + 1 < 2 ^ 32 → IsTreeCount root old p n
           → MayChange n (taking_change opened (ending_by r.claim) (score_by r.claim))
-      taken_room n opened opens records is_open children few all small holdouts under count =
+      taken_room n opened opens records certified is_open children all few holdouts under count =
           let most = no_more (λ q. InTableTree p q × IsOpen root (mark_in old) q) (IsOpen root (mark_in old)) n.open_count opens (λ q h. h.1) count.open_count all in
           let also = no_more (λ q. InTableTree p q × IsHoldout old q) (IsHoldout old) n.holdouts records (λ q h. h.1) count.holdouts holdouts in
           let one = at_most_one (ending_by r.claim) in
           let some = (open_taking n.open_count opened is_open children count.open_count).1 in
-          record { open_room = omega (arith, most, few, small); open_less = some; holdouts_room = omega (arith, also, under, one); holdouts_less = omega arith }
+          let small = certified_small r certified in
+          record {
+            open_room = omega (arith, most, few);
+            open_less = some;
+            holdouts_room = λ fits. omega (arith, also, under, one);
+            holdouts_less = omega arith;
+            steps_room = small.0;
+            ones_room = small.1;
+          }
         where
           at_most_one : (o : Option Ending) → one_undecided o ≤ 1
           at_most_one None = omega arith
           at_most_one (Some v) = omega arith
 
-      pub settled_room : (n : TreeCount) (opened opens records : ℕ) → IsHoldout old r.table → IsSome (ending_by r.claim) → opened < 2 ^ 63
-          → AreSoMany (IsOpen root (mark_in old)) opens → opens < 2 ^ 63 → AreSoMany (IsHoldout old) records → records < 2 ^ 63 → IsTreeCount root old p n
+      pub settled_room : (n : TreeCount) (opened opens : ℕ) → IsCertified r → IsHoldout old r.table → IsSome (ending_by r.claim)
+          → AreSoMany (IsOpen root (mark_in old)) opens → opens + opened < 2 ^ 32 → IsTreeCount root old p n
           → MayChange n (resolving_change opened (ending_by r.claim) (score_by r.claim))
-      settled_room n opened opens records holdout verdict few all small holdouts under count =
+      settled_room n opened opens certified holdout verdict all few count =
           let most = no_more (λ q. InTableTree p q × IsOpen root (mark_in old) q) (IsOpen root (mark_in old)) n.open_count opens (λ q h. h.1) count.open_count all in
-          let also = no_more (λ q. InTableTree p q × IsHoldout old q) (IsHoldout old) n.holdouts records (λ q h. h.1) count.holdouts holdouts in
           let some = (holdouts_settling n.holdouts holdout verdict count.holdouts).1 in
-          record { open_room = omega (arith, most, few, small); open_less = omega arith; holdouts_room = omega (arith, also, under); holdouts_less = some }
+          let small = certified_small r certified in
+          record {
+            open_room = omega (arith, most, few);
+            open_less = omega arith;
+            holdouts_room = λ fits. omega (arith, fits);
+            holdouts_less = some;
+            steps_room = small.0;
+            ones_room = small.1;
+          }
 
     -- in the tree of a recorded table in whose tree its own doesn't stand, nothing changes
     pub count_kept : (p : Packed) (n : TreeCount) → InTableTree root p → IsSome (claim_in old p) → (InTableTree p r.table → ⊥) → IsTreeCount root old p n → IsTreeCount root new p n

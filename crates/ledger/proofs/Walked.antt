@@ -5,7 +5,6 @@ use Rattle.indexmap.specs.IndexMap.{set_value_at}
 use Rattle.std.proofs.lemmas.Bool.{cases_lt}
 use Rattle.std.proofs.lemmas.Option.{same_Some, slice_get_within}
 use Rattle.machine_text.specs.Packed.{Packed}
-use Rattle.ledger.specs.declared.tree_count.TreeCount.{TreeCount}
 use Rattle.ledger.specs.declared.tree_count.TreeChange.{TreeChange}
 use Rattle.ledger.specs.declared.stored_record.StoredRecord.{StoredRecord}
 use Rattle.ledger.specs.inside.Open.{no_place}
@@ -149,14 +148,13 @@ reached_there c es new from place k at earlier more =
       let less = lower k.parent place (reached_lower c es new from place k at earlier) more in let within = slice_get_within es place at.entry at.old in omega (arith, less, within),
     )
 
-pub reached_walked : (c : TreeChange) (es new : List (Packed × StoredRecord)) (from place : ℕ) (k : StoredRecord) (more : TreeCount) → IsReached c es new from place k → AreEarlier es → AreWalked c es from place new
-    → more ≡ changed_count c k.tree → AreWalked c es from k.parent (set_value_at new place (record k { tree = more }))
-reached_walked c es new from place k more at earlier walked is =
-    let parent : at.entry.1.parent ≡ k.parent = ap (λ (x : StoredRecord). x.parent) at.value in
-    let same : (at.entry.0, record k { tree = more }) ≡ counting c at.entry =
-    ap (λ (n : TreeCount). (at.entry.0, record k { tree = n })) is ∙ ap (λ (x : StoredRecord). (at.entry.0, record x { tree = changed_count c x.tree })) (sym at.value) in
-    subst (λ p. AreWalked c es from p (set_value_at new place (record k { tree = more }))) parent
-    (one_walked c es new from place at.entry (record k { tree = more }) earlier walked at.small at.on at.now same)
+pub reached_walked : (c : TreeChange) (es new : List (Packed × StoredRecord)) (from place parent : ℕ) (k now : StoredRecord) → IsReached c es new from place k → AreEarlier es → AreWalked c es from place new
+    → now ≡ record k { tree = changed_count c k.tree } → parent ≡ k.parent → AreWalked c es from parent (set_value_at new place now)
+reached_walked c es new from place parent k now at earlier walked is above =
+    let same : (at.entry.0, now) ≡ counting c at.entry =
+    ap (λ (x : StoredRecord). (at.entry.0, x)) is ∙ ap (λ (x : StoredRecord). (at.entry.0, record x { tree = changed_count c x.tree })) (sym at.value) in
+    subst (λ p. AreWalked c es from p (set_value_at new place now)) (ap (λ (x : StoredRecord). x.parent) at.value ∙ sym above)
+    (one_walked c es new from place at.entry now earlier walked at.small at.on at.now same)
 
 pub as_long : (es : List (Packed × StoredRecord)) (i : ℕ) (k : StoredRecord) → length (set_value_at es i k) ≡ length es
 as_long [] i k = refl

@@ -23,7 +23,7 @@ use crate::footing::{Footing, recorded_footing};
 use crate::format::Format;
 use crate::index::{certificate_for, pair_for, tree_count_of, verdict_in};
 use crate::open::Open;
-use crate::open_tables::{close, only, open_children, opener_place};
+use crate::open_tables::{close, only, open_children, opener_place, opening_room};
 use crate::records::Records;
 use crate::selected::{
     listed_tables, sorted_tables, tables_with, tables_with_ones, undecided_tables,
@@ -196,7 +196,7 @@ impl Board {
     {
         child_is_table();
         let tables = undecided_tables(self.alloc, &self.records)?;
-        sorted_tables(self.alloc, tables)
+        Ok(sorted_tables(tables))
     }
 
     /// The children of a table that is recorded as halting, in the order of their texts; none where it
@@ -234,7 +234,7 @@ impl Board {
     {
         child_is_table();
         let tables = tables_with(self.alloc, &self.records, self.counts.best)?;
-        sorted_tables(self.alloc, tables)
+        Ok(sorted_tables(tables))
     }
 
     /// The tables that are recorded with the greatest score, in the order of their texts.
@@ -244,7 +244,7 @@ impl Board {
     {
         child_is_table();
         let tables = tables_with_ones(self.alloc, &self.records, self.counts.ones)?;
-        sorted_tables(self.alloc, tables)
+        Ok(sorted_tables(tables))
     }
 
     /// The champions by steps, those by scores and the holdouts, as `champions`, `ones_champions` and `holdouts` give
@@ -264,9 +264,9 @@ impl Board {
             counts.best,
             counts.ones,
         )?;
-        let champions = sorted_tables(self.alloc, champions)?;
-        let ones_champions = sorted_tables(self.alloc, ones_champions)?;
-        let holdouts = sorted_tables(self.alloc, holdouts)?;
+        let champions = sorted_tables(champions);
+        let ones_champions = sorted_tables(ones_champions);
+        let holdouts = sorted_tables(holdouts);
         Ok((champions, ones_champions, holdouts))
     }
 
@@ -433,22 +433,16 @@ impl Board {
         let stored = StoredRecord::of(self.alloc, r, judging, slot.parent, slot.tree)?;
         let held = Record {
             table: r.table,
-            certificate: stored.certificate.lent(),
+            certificate: stored.lent(),
         };
-        let opened = child_count(&held, stored.halts_on);
+        let pair = stored.halts_on();
+        let opened = child_count(&held, pair);
         let shown = held.certificate.ending();
         let score = held.certificate.ones();
         let place = opener_place(slot.place)?;
-        // The proof needs how many open tables there can be.
-        let _ = self.open_tables.len();
+        opening_room(self.open_tables.len(), opened)?;
         self.records.reserve(1)?;
-        open_children(
-            &mut self.open_tables,
-            &self.records,
-            &held,
-            place,
-            stored.halts_on,
-        )?;
+        open_children(&mut self.open_tables, &self.records, &held, place, pair)?;
         // From here on nothing is refused: there is room for the record.
         match self.records.insert(r.table, stored) {
             Ok(_) => {}

@@ -23,8 +23,8 @@ pub(crate) fn change_chain(
     while place != NO_PLACE {
         match records.get_index_mut(place as usize) {
             Some(stored) => {
-                stored.tree = stored.tree.with(change);
-                place = stored.parent;
+                stored.change_tree(change);
+                place = stored.parent();
             }
             None => unreachable!(),
         }

@@ -11,6 +11,7 @@ ghost use Rattle.ledger.specs.Records.{claim_in, same_table, verdict_in};
 ghost use Rattle.ledger.specs.declared.stored_record.StoredRecord.{StoredRecord};
 ghost use Rattle.std.specs.Map.{lookup};
 
+use crate::stored_count::StoredCount;
 use crate::stored_record::StoredRecord;
 use crate::tree_count::TreeCount;
 use cert::Certificate;
@@ -26,7 +27,7 @@ pub(crate) fn certificate_for<'a>(
     ensures { option_map claim_of result ≡ claim_in (records_of records.now.entries) t.now }
 {
     match records.get(t) {
-        Some(stored) => Some(stored.certificate.lent()),
+        Some(stored) => Some(stored.lent()),
         None => None,
     }
 }
@@ -39,7 +40,7 @@ pub(crate) fn pair_for(records: &IndexMap<Table, StoredRecord>, t: &Table) -> Op
     ensures none { IfNone result (IsHalting (records_of records.now.entries) t.now → ⊥) }
 {
     match records.get(t) {
-        Some(stored) => stored.halts_on,
+        Some(stored) => stored.halts_on(),
         None => None,
     }
 }
@@ -75,13 +76,13 @@ pub(crate) fn place_of(records: &IndexMap<Table, StoredRecord>, t: &Table) -> us
 pub(crate) fn place_and_count_of(
     records: &IndexMap<Table, StoredRecord>,
     t: &Table,
-) -> (u32, TreeCount)
+) -> (u32, StoredCount)
     requires { IsHoldout (records_of records.now.entries) t.now }
     ensures { (k : StoredRecord) × (lookup (same_table t.now) records.now.entries ≡ Some k)
         × (result ≡ (k.parent, k.tree)) }
 {
     match records.get(t) {
-        Some(stored) => (stored.parent, stored.tree),
+        Some(stored) => (stored.parent(), stored.tree()),
         None => unreachable!(),
     }
 }
@@ -91,7 +92,7 @@ pub(crate) fn tree_count_of(records: &IndexMap<Table, StoredRecord>, t: &Table) 
     ensures { result ≡ option_map (λ k. k.tree) (lookup (same_table t.now) records.now.entries) }
 {
     match records.get(t) {
-        Some(stored) => Some(stored.tree),
+        Some(stored) => Some(stored.tree().numbers()),
         None => None,
     }
 }

@@ -50,6 +50,18 @@ pub(crate) fn opener_place(place: usize) -> Result<u32, NoMemory>
     }
 }
 
+// Refuses memory for so many more open tables beside those that there are, where four bytes don't count them all.
+pub(crate) fn opening_room(open_count: usize, opened: u64) -> Result<(), NoMemory>
+    ensures { OnOk result (open_count + opened < 2 ^ 32) }
+{
+    let most = u32::MAX as u64;
+    if opened <= most && open_count as u64 <= most - opened {
+        Ok(())
+    } else {
+        Err(NoMemory)
+    }
+}
+
 // Opens the children of a record's table, which halts on this pair if it is known to: those that have no
 // record and aren't open already. The record stands at this place, or will. Where memory is refused, the
 // tables are as they were.

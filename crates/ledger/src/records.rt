@@ -65,7 +65,7 @@ impl<'a> Iterator for Records<'a> {
         let (table, stored) = self.left.next()?;
         Some(Record {
             table: *table,
-            certificate: stored.certificate.lent(),
+            certificate: stored.lent(),
         })
     }
 }

@@ -9,7 +9,6 @@ ghost use Rattle.machine_text.specs.Order.{table_cmp};
 
 use crate::stored_record::StoredRecord;
 use indexmap::IndexMap;
-use itertools::Itertools;
 use kind_evidence::{Ending, NoMemory};
 use machine_text::Table;
 use std::alloc::Global;
@@ -86,7 +85,7 @@ pub(crate) fn undecided_tables(
 fn undecided_table(table: &Table, stored: &StoredRecord) -> Option<Table>
     ensures { result ≡ undecided_table (entry_recorded (table.now, stored.now)) }
 {
-    if stored.certificate.ending().is_none() {
+    if stored.ending().is_none() {
         Some(*table)
     } else {
         None
@@ -126,7 +125,7 @@ fn champion_tables(
 fn champion_table(best: u64, table: &Table, stored: &StoredRecord) -> Option<Table>
     ensures { result ≡ champion_table best (entry_recorded (table.now, stored.now)) }
 {
-    match stored.certificate.ending() {
+    match stored.ending() {
         Some(Ending::Halts(count)) if count == best => Some(*table),
         _ => None,
     }
@@ -166,7 +165,7 @@ fn ones_champion_tables(
 fn ones_champion_table(best: u64, table: &Table, stored: &StoredRecord) -> Option<Table>
     ensures { result ≡ ones_champion_table best (entry_recorded (table.now, stored.now)) }
 {
-    match stored.certificate.lent().ones() {
+    match stored.lent().ones() {
         Some(ones) if ones == best => Some(*table),
         _ => None,
     }
@@ -183,9 +182,10 @@ fn push_some(found: &mut Vec<Table>, table: Option<Table>) -> Result<(), NoMemor
 }
 
 // Tables in the order of their texts.
-pub(crate) fn sorted_tables(alloc: Global, tables: Vec<Table>) -> Result<IntoIter<Table>, NoMemory>
-    ensures same { IfOk result (λ found. IsPermutation tables.items (into_iter_items found)) }
-    ensures sorted { IfOk result (λ found. IsSorted table_cmp (into_iter_items found)) }
+pub(crate) fn sorted_tables(mut tables: Vec<Table>) -> IntoIter<Table>
+    ensures same { IsPermutation tables.items (into_iter_items result) }
+    ensures sorted { IsSorted table_cmp (into_iter_items result) }
 {
-    Ok(tables.into_iter().sorted(alloc)?)
+    tables.sort_unstable();
+    tables.into_iter()
 }

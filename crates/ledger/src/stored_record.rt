@@ -5,26 +5,40 @@ ghost use Rattle.cert.specs.Certified.{IsCertified, IsPairOf, IsShownBy};
 ghost use Rattle.cert.specs.Kinds.{claim_of, owned_claim, recorded};
 ghost use Rattle.cert.specs.Scored.{scored};
 ghost use Rattle.ledger.specs.Held.{HasScore};
+ghost use Rattle.ledger.specs.inside.Changing.{changed_count, MayChange};
 ghost use Rattle.ledger.specs.inside.Places.{IsJudgedSo, IsWhyRefused};
 ghost use Rattle.ledger.specs.inside.Stored.{entry_recorded};
 
 use crate::faults::OfferFault;
-use crate::tree_count::TreeCount;
-use cert::{Judged, OwnedCertificate, Record, judge_on};
+use crate::kept::Kept;
+use crate::stored_count::StoredCount;
+use crate::tree_count::TreeChange;
+use cert::{Certificate, Judged, OwnedCertificate, Record, judge_on};
 use kind_evidence::{Ending, Refused, Verdict};
 use machine_text::{Pair, Table};
 use std::alloc::Global;
+use std::marker::Model;
 
 // A certificate, with its table's score where it says that this halts, and the pair on which it halts: so the score
-// and the children of the table are known without another run. The place of the parent's record and the numbers of the tree stand
-// with it, so that what is left of the tree is known without a walk.
+// and the children of the table are known without another run. The place of the parent's record, of the root nowhere, and the
+// numbers of the tree stand with it, so that what is left of the tree is known without a walk.
 #[derive(Drop)]
 pub(crate) struct StoredRecord {
-    pub certificate: OwnedCertificate,
-    pub halts_on: Option<Pair>,
-    // where the record of the table's parent stands; of the root nowhere
-    pub parent: u32,
-    pub tree: TreeCount,
+    kept: Kept,
+    tree: StoredCount,
+}
+
+impl Model for StoredRecord {
+    ghost use Rattle.ledger.specs.inside.Kept.{Stored, kept_certificate, kept_pair, kept_parent};
+
+    ghost Value = { Stored };
+
+    ghost view = { λ a. record {
+      certificate = kept_certificate a.kept;
+      halts_on = kept_pair a.kept;
+      parent = kept_parent a.kept;
+      tree = a.tree;
+    } };
 }
 
 // Whether a record is yet to be judged.
@@ -46,7 +60,7 @@ impl StoredRecord {
         r: &Record,
         judging: Judging,
         parent: u32,
-        tree: TreeCount,
+        tree: StoredCount,
     ) -> Result<StoredRecord, OfferFault>
         requires { IsJudgedSo judging (recorded r.now) }
         ensures certified { OnOk result (IsCertified (recorded r.now)) }
@@ -59,13 +73,54 @@ impl StoredRecord {
         ensures refusal { IfErr result (λ f. IsWhyRefused f (recorded r.now)) }
     {
         let judged = judged_as(alloc, r, judging)?;
-        let certificate = OwnedCertificate::of(alloc, &r.certificate)?;
+        let certificate = OwnedCertificate::of(alloc, &r.certificate)?.with_score(judged.verdict);
         Ok(StoredRecord {
-            certificate: certificate.with_score(judged.verdict),
-            halts_on: judged.halts_on,
-            parent,
+            kept: Kept::of(alloc, certificate, judged.halts_on, parent)?,
             tree,
         })
+    }
+
+    // How its table's run ends; nothing where nothing is claimed.
+    pub fn ending(&self) -> Option<Ending>
+        ensures { result ≡ ending_by (owned_claim self.now.certificate) }
+    {
+        self.kept.ending()
+    }
+
+    // The certificate, lent.
+    pub fn lent(&self) -> Certificate<'_>
+        ensures { claim_of result ≡ owned_claim self.now.certificate }
+    {
+        self.kept.lent()
+    }
+
+    // The pair on which its table halts.
+    pub fn halts_on(&self) -> Option<Pair>
+        ensures { result ≡ self.now.halts_on }
+    {
+        self.kept.halts_on()
+    }
+
+    // Where the record of its table's parent stands.
+    pub fn parent(&self) -> u32
+        ensures { result ≡ self.now.parent }
+    {
+        self.kept.parent()
+    }
+
+    // The numbers of its table's tree.
+    pub fn tree(&self) -> StoredCount
+        ensures { result ≡ self.now.tree }
+    {
+        self.tree
+    }
+
+    // Changes these numbers.
+    pub fn change_tree(&mut self, change: TreeChange)
+        requires { MayChange self.old.tree change }
+        ensures { self.new ≡ record self.old { tree = changed_count change self.old.tree } }
+    {
+        self.tree = self.tree.with(change);
     }
 
     // The verdict that its certificate shows of its table, with whose score it is stored.
@@ -73,8 +128,8 @@ impl StoredRecord {
         requires { HasScore (entry_recorded (t.now, self.now)) }
         ensures { result ≡ shown_by (owned_claim self.now.certificate) t.now }
     {
-        match self.certificate.ending() {
-            Some(Ending::Halts(steps)) => match self.certificate.lent().ones() {
+        match self.ending() {
+            Some(Ending::Halts(steps)) => match self.lent().ones() {
                 Some(ones) => Some(Verdict::Halts { steps, ones }),
                 None => unreachable!(),
             },

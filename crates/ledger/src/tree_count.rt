@@ -1,10 +1,8 @@
 // What is kept of the tree of each recorded table, so that it needn't be walked to know what is left in it.
 ghost use Rattle.std.specs.Prelude.{◌≡◌, ◌↔◌, IsTrue};
 ghost use Rattle.ledger.specs.inside.Counting.{steps_of};
-ghost use Rattle.ledger.specs.inside.Changing.{changed_count, first_count, MayChange};
 ghost use Rattle.ledger.specs.inside.Waiting.{change_of};
 
-use crate::counts::greater;
 use crate::waiting::Waiting;
 use kind_evidence::Ending;
 
@@ -36,31 +34,6 @@ pub(crate) struct TreeChange {
 }
 
 impl TreeCount {
-    // The numbers of an open table: there is nothing else in its tree.
-    pub fn first() -> TreeCount
-        ensures { result ≡ first_count }
-    {
-        TreeCount {
-            open_count: 1,
-            holdouts: 0,
-            best: None,
-            ones: None,
-        }
-    }
-
-    // The numbers after a change.
-    pub fn with(self, change: TreeChange) -> TreeCount
-        requires { MayChange self change }
-        ensures { result ≡ changed_count change self }
-    {
-        TreeCount {
-            open_count: self.open_count + change.opened - change.closed,
-            holdouts: self.holdouts + change.undecided - change.resolved,
-            best: greater(self.best, change.steps),
-            ones: greater(self.ones, change.ones),
-        }
-    }
-
     // Whether no table of the tree is open or a holdout.
     pub fn is_closed(&self) -> bool
         ensures { IsTrue result ↔ ((self.now.open_count ≡ 0) × (self.now.holdouts ≡ 0)) }

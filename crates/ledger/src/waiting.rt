@@ -5,9 +5,9 @@ ghost use Rattle.ledger.specs.inside.Stored.{records_of};
 ghost use Rattle.ledger.specs.inside.Waiting.{taken_of, IsSlot};
 
 use crate::index::{place_and_count_of, place_of};
+use crate::stored_count::StoredCount;
 use crate::stored_record::StoredRecord;
 use crate::taken::Taken;
-use crate::tree_count::TreeCount;
 use indexmap::IndexMap;
 use machine_text::Table;
 
@@ -24,7 +24,7 @@ pub(crate) enum Waiting {
 pub(crate) struct Slot {
     pub place: usize,
     pub parent: u32,
-    pub tree: TreeCount,
+    pub tree: StoredCount,
 }
 
 impl Waiting {
@@ -48,7 +48,7 @@ impl Waiting {
             Waiting::Open { opener } => Slot {
                 place: records.len(),
                 parent: opener,
-                tree: TreeCount::first(),
+                tree: StoredCount::first(),
             },
             Waiting::Holdout => {
                 let (parent, tree) = place_and_count_of(records, t);

@@ -4,6 +4,7 @@ use Rattle.machine_text.specs.Packed.{Packed}
 use Rattle.kind_evidence.specs.declared.verdicts.Ending.{Ending}
 use Rattle.ledger.specs.inside.Counting.{greater, steps_of}
 use Rattle.ledger.specs.inside.Open.{no_place}
+use Rattle.ledger.specs.inside.SmallNumbers.{IsSmall}
 use Rattle.ledger.specs.declared.tree_count.TreeCount.{TreeCount}
 use Rattle.ledger.specs.declared.tree_count.TreeChange.{TreeChange}
 use Rattle.ledger.specs.declared.stored_record.StoredRecord.{StoredRecord}
@@ -38,7 +39,7 @@ resolving_change n shown ones = record {
   ones = ones;
 }
 
--- the numbers after a change, which there is room for
+-- the numbers after a change, which there is room for in four bytes each
 abbrev pub changed_count : TreeChange → TreeCount → TreeCount
 changed_count c n = record {
   open_count = n.open_count + c.opened - c.closed;
@@ -49,10 +50,12 @@ changed_count c n = record {
 }
 
 pub record MayChange (n : TreeCount) (c : TreeChange) : Type 0 where
-  pub open_room : n.open_count + c.opened < 2 ^ 64
+  pub open_room : n.open_count + c.opened < 2 ^ 32
   pub open_less : c.closed ≤ n.open_count
-  pub holdouts_room : n.holdouts + c.undecided < 2 ^ 64
+  pub holdouts_room : n.holdouts < 2 ^ 32 → n.holdouts + c.undecided < 2 ^ 32
   pub holdouts_less : c.resolved ≤ n.holdouts
+  pub steps_room : IsSmall c.steps
+  pub ones_room : IsSmall c.ones
 
 -- the chain of a place: itself, and that of the place of its record's parent
 pub data OnChain (es : List (Packed × StoredRecord)) : ℕ → ℕ → Type 0 where

@@ -13,7 +13,7 @@ returns-in-Some-clause-some c =
     let es = c.args.records.now.entries in
     let kept = c.in-Some.stored.now in
     let found = sym c.get.ensures.value ∙ ap option_copied c.in-Some.is in
-    pair_some (records_of es) c.args.t.now (owned_claim kept.certificate) kept.halts_on (found_claim es c.args.t.now kept found) (found_pair es c.args.t.now kept c.requires found)
+    rw c.halts_on.ensures (pair_some (records_of es) c.args.t.now (owned_claim kept.certificate) kept.halts_on (found_claim es c.args.t.now kept found) (found_pair es c.args.t.now kept c.requires found))
 
 pub returns-in-Some-clause-none : goal.returns-in-Some-clause-none
 unfolding same_table
@@ -21,7 +21,7 @@ returns-in-Some-clause-none c =
     let es = c.args.records.now.entries in
     let kept = c.in-Some.stored.now in
     let found = sym c.get.ensures.value ∙ ap option_copied c.in-Some.is in
-    pair_none (records_of es) c.args.t.now (owned_claim kept.certificate) kept.halts_on (found_claim es c.args.t.now kept found) (found_pair es c.args.t.now kept c.requires found)
+    rw c.halts_on.ensures (pair_none (records_of es) c.args.t.now (owned_claim kept.certificate) kept.halts_on (found_claim es c.args.t.now kept found) (found_pair es c.args.t.now kept c.requires found))
 
 pub returns-in-None-clause-none : goal.returns-in-None-clause-none
 unfolding same_table

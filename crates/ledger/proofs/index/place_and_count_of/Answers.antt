@@ -10,4 +10,4 @@ unreachable-requires c = holdout_there c.args.records.now.entries c.args.t.now c
 
 pub returns : goal.returns
 unfolding same_table
-returns c = (c.in-Some.stored.now, sym c.get.ensures.value ∙ ap option_copied c.in-Some.is, refl)
+returns c = (c.in-Some.stored.now, sym c.get.ensures.value ∙ ap option_copied c.in-Some.is, rw (c.parent.ensures, c.tree.ensures) refl)

@@ -2,11 +2,10 @@ use Rattle.std.proofs.Common.{subst, ◌∙◌, ap}
 use Rattle.std.specs.Vec.Iter.{into_iter_items}
 use Rattle.ledger.specs.Contents.{Contents, IsBoard}
 use Rattle.ledger.specs.inside.Counting.{IsCounted, tables_with}
-use Rattle.ledger.proofs.BoardLaws.{best_champions, if_both}
+use Rattle.ledger.proofs.BoardLaws.{best_champions}
 use Rattle.ledger.proofs.board.Board.champions.Goals as goal
 
 pub returns : goal.returns
-returns c = if_both c.sorted_tables.result
-    (λ found same sorted. best_champions c.args.self.now c.self.inside.counts.best c.in_ok-tables.tables.items (into_iter_items found)
-    c.child_is_table.ensures.below c.child_is_table.ensures.tree (subst IsBoard c.self.view_is c.self.invariant.0) (subst (λ (b : Contents). IsCounted b.records c.self.inside.counts) c.self.view_is c.self.invariant.3).best (c.in_ok-tables.ensures ∙ ap (λ (b : Contents). tables_with c.self.inside.counts.best b.records) c.self.view_is) same sorted)
+returns c = best_champions c.args.self.now c.self.inside.counts.best c.in_ok-tables.tables.items (into_iter_items c.sorted_tables.result)
+    c.child_is_table.ensures.below c.child_is_table.ensures.tree (subst IsBoard c.self.view_is c.self.invariant.0) (subst (λ (b : Contents). IsCounted b.records c.self.inside.counts) c.self.view_is c.self.invariant.3).best (c.in_ok-tables.ensures ∙ ap (λ (b : Contents). tables_with c.self.inside.counts.best b.records) c.self.view_is)
     c.sorted_tables.ensures.same c.sorted_tables.ensures.sorted

@@ -1,4 +1,4 @@
-use Rattle.std.proofs.Common.{List, length, Option, sym, ◌<◌, ◌^◌, ◌∙◌, ap, subst}
+use Rattle.std.proofs.Common.{List, Option, sym, ◌∙◌, ap, subst}
 use Rattle.machine_text.specs.Packed.{Packed}
 use Rattle.kind_evidence.specs.declared.verdicts.Ending.{Ending}
 use Rattle.cert.specs.Claim.{Recorded, ending_by}
@@ -20,13 +20,13 @@ pub child_count-opened-requires-clause-in_order : goal.child_count-opened-requir
 child_count-opened-requires-clause-in_order c = waits_in_order c.args.self.now (recorded c.args.r.now) c.args.waiting c.child_is_table.ensures.below c.child_is_table.ensures.order (subst IsBoard c.self.view_is c.self.invariant.0) c.requires.waits
 
 pub child_count-opened-requires-clause-pair : goal.child_count-opened-requires-clause-pair
-child_count-opened-requires-clause-pair c = lent_pair c.args.r.now.table c.in_ok-stored.stored c.lent.result c.lent.ensures c.in_ok-stored.ensures.pair
+child_count-opened-requires-clause-pair c = rw c.halts_on-pair.ensures (lent_pair c.args.r.now.table c.in_ok-stored.stored c.lent.result c.lent.ensures c.in_ok-stored.ensures.pair)
 
 pub open_children-requires-clause-in_order : goal.open_children-requires-clause-in_order
 open_children-requires-clause-in_order c = waits_in_order c.args.self.now (recorded c.args.r.now) c.args.waiting c.child_is_table.ensures.below c.child_is_table.ensures.order (subst IsBoard c.self.view_is c.self.invariant.0) c.requires.waits
 
 pub open_children-requires-clause-pair : goal.open_children-requires-clause-pair
-open_children-requires-clause-pair c = lent_pair c.args.r.now.table c.in_ok-stored.stored c.lent.result c.lent.ensures c.in_ok-stored.ensures.pair
+open_children-requires-clause-pair c = rw c.halts_on-pair.ensures (lent_pair c.args.r.now.table c.in_ok-stored.stored c.lent.result c.lent.ensures c.in_ok-stored.ensures.pair)
 
 pub open_children-requires-clause-none : goal.open_children-requires-clause-none
 open_children-requires-clause-none c =
@@ -55,8 +55,7 @@ change_chain-requires c =
     ∙ ap (change_of c.args.waiting c.child_count-opened.result (ending_by r.claim)) c.ones-score.ensures) in
     subst (CarriesUp new place) (sym change)
     (put_carries root es new r stored c.args.waiting place c.child_count-opened.result c.child_count-opened.ensures.number c.self.inside.open_tables c.self.inside.counts kept put
-    c.len.result c.len.ensures.len c.len.ensures.ordered c.child_count-opened.ensures.small c.len.ensures.small
-    (subst (λ (l : List (Packed × StoredRecord)). length l < 2 ^ 63) (sym c.in_ok-reserve.ensures.entries) c.slot-slot.ensures.few))
+    c.len.result c.len.ensures.len c.len.ensures.ordered c.in_ok-opening_room.ensures)
 
 pub without-requires : goal.without-requires
 without-requires c =
@@ -84,7 +83,7 @@ invariant_of-self-2 c =
     rw (c.with-self-inside.ensures, c.without.ensures, c.ending-shown.ensures, c.ones-score.ensures)
     (put_stored root es new r stored c.args.waiting place c.child_count-opened.result c.child_count-opened.ensures.number c.self.inside.open_tables c.self.inside.counts kept put
     c.open_children.new.tables c.close.new.tables (lent_pair c.args.r.now.table stored c.lent.result c.lent.ensures c.in_ok-stored.ensures.pair)
-    c.in_ok-open_children.ensures.ok c.in_ok-open_children.ensures.others c.in_ok-open_children.ensures.children c.in_ok-open_children.ensures.none c.change_chain.new.records.entries c.close.ensures
+    c.in_ok-open_children.ensures.ok c.in_ok-open_children.ensures.others c.in_ok-open_children.ensures.children (λ none. c.in_ok-open_children.ensures.none (c.halts_on-pair.ensures ∙ none)) c.change_chain.new.records.entries c.close.ensures
     (subst (λ (h : TreeChange). AreChanged h new place c.change_chain.new.records.entries) change c.change_chain.ensures.changed) c.change_chain.ensures.length)
 
 pub returns-clause-ok : goal.returns-clause-ok

@@ -5,7 +5,7 @@ use crate::call::Call;
 use crate::late::Late;
 use crate::ledgers::STANDARD_INPUT;
 use crate::own_line::OwnLine;
-use cmd_json::Form;
+use cmd_json::LinesOrJson;
 use cmd_options::{Ended, Joining, LedgerSettling, Looking, Outcome, Splitting};
 use cmd_parts::{cmd_join, cmd_join_stream, cmd_split, look_at, settle_ledger_at};
 use files::Disk;
@@ -74,7 +74,7 @@ pub(crate) fn join<S: Disk + ReadingTold, R: Read, W: Write, E: Write>(
     call: Call<'_, S, R, W, E>,
     joining: &Joining<'_>,
 ) -> Result<Outcome, Ended> {
-    let form = Form::of(joining.json);
+    let form = LinesOrJson::of(joining.json);
     let mut files = call.files();
     let Call {
         alloc,

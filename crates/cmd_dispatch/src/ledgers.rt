@@ -3,7 +3,7 @@
 use crate::call::Call;
 use crate::late::Late;
 use crate::own_line::OwnLine;
-use cmd_json::Form;
+use cmd_json::LinesOrJson;
 use cmd_ledgers::{
     cmd_carry, cmd_mend, cmd_mend_stream, cmd_merge, cmd_report, cmd_report_stream, cmd_retry,
 };
@@ -106,7 +106,7 @@ pub(crate) fn report<S: Disk + ReadingTold, R: Read, W: Write, E: Write>(
     call: Call<'_, S, R, W, E>,
     reporting: &Reporting<'_>,
 ) -> Result<Outcome, Ended> {
-    let (files, form) = (call.files(), Form::of(reporting.json));
+    let (files, form) = (call.files(), LinesOrJson::of(reporting.json));
     let (path, why) = (reporting.file, reporting.why);
     let Call {
         alloc,

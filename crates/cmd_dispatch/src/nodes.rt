@@ -5,7 +5,7 @@ ghost use Rattle.cmd_options.specs.Ranges.{IsBeginning, IsSettling};
 use crate::call::Call;
 use crate::late::Late;
 use cert::Finders;
-use cmd_json::Form;
+use cmd_json::LinesOrJson;
 use cmd_nodes::{
     MaybeLedger, Network, Run, Serving, Sockets, by_start, cmd_coord, cmd_loop, cmd_run, serve_tree,
 };
@@ -69,7 +69,7 @@ pub(crate) fn serve<S: Disk + Clock + Network, R, W: Write, E: Write>(
     } = call;
     let serving = Serving {
         beginning,
-        form: &Form::of(listening.json),
+        form: &LinesOrJson::of(listening.json),
         clock: system,
     };
     let telling = Telling::of(listening.progress, system.tells_terminal());
@@ -121,7 +121,7 @@ fn run_kept<N: Node + Drop, S: Disk + Clock, W: Write, E: Write>(
 {
     let run = Run {
         settling,
-        form: &Form::of(settling.json),
+        form: &LinesOrJson::of(settling.json),
         workers,
     };
     let Kept {
@@ -178,7 +178,7 @@ fn loop_kept<N: Node + Drop, S: Disk + Clock + Sockets, W: Write, E: Write>(
 {
     let run = Run {
         settling,
-        form: &Form::of(settling.json),
+        form: &LinesOrJson::of(settling.json),
         workers,
     };
     let Kept {

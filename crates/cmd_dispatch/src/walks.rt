@@ -4,7 +4,7 @@ ghost use Rattle.cmd_options.specs.Ranges.{IsWalking};
 use crate::call::Call;
 use crate::late::Late;
 use cert::Decider;
-use cmd_json::Form;
+use cmd_json::LinesOrJson;
 use cmd_options::{Durability, Ended, LedgerFile, Outcome, Saving, Walking, ended_by};
 use cmd_walk::cmd_walk;
 use files::{Disk, Files, ledger_at, lock_ledger};
@@ -92,7 +92,7 @@ fn walk_by<D: Decider, S: Disk + Clock, W: Write, E: Write>(
     let mut progress = TimedProgress::new(alloc, telling, Work::Tree, system, faults);
     let outcome = cmd_walk(
         alloc,
-        &Form::of(walking.json),
+        &LinesOrJson::of(walking.json),
         root,
         decider,
         &mut progress,

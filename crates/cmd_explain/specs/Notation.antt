@@ -18,14 +18,14 @@ use Rattle.cmd_explain.specs.Halting.{letter_of_state}
 use Rattle.cmd_explain.specs.Quantity.{sentence}
 
 -- a sum, as `2n+m+4`: what stands behind another summand, a multiple of a variable, and a number at the end
-unfoldable pub behind : List ℕ → List ℕ → List ℕ
-behind before text = if length before == 0 then text else before ++ 43 ∷ text
+unfoldable pub added_to : List ℕ → List ℕ → List ℕ
+added_to before text = if length before == 0 then text else before ++ 43 ∷ text
 
 unfoldable pub multiple : List ℕ → ℕ → List ℕ → List ℕ
 multiple before factor variable =
     if factor == 0 then before
-    else if factor == 1 then behind before variable
-    else behind before (decimal factor ++ variable)
+    else if factor == 1 then added_to before variable
+    else added_to before (decimal factor ++ variable)
 
 unfoldable pub exponent_sum : Exponent → List ℕ
 exponent_sum e =
@@ -34,7 +34,7 @@ exponent_sum e =
 unfoldable pub exponent_text : Exponent → List ℕ
 exponent_text e =
     if (e.ones == 0) && not (length (exponent_sum e) == 0) then exponent_sum e
-    else behind (exponent_sum e) (decimal e.ones)
+    else added_to (exponent_sum e) (decimal e.ones)
 
 -- behind `^`: in brackets unless it is a number or a variable alone
 unfoldable pub power_text : Exponent → List ℕ
@@ -43,15 +43,15 @@ power_text e =
     else 40 ∷ (exponent_text e ++ 41 ∷ [])
 
 -- a word on a half tape as it is read from left to right
-abbrev pub word_text : Dir → ℕ → List ℕ
-word_text L word = map symbol_byte (reverse (word_symbols word))
-word_text R word = map symbol_byte (word_symbols word)
+abbrev pub word_digits : Dir → ℕ → List ℕ
+word_digits L word = map symbol_byte (reverse (word_symbols word))
+word_digits R word = map symbol_byte (word_symbols word)
 
 -- a block; a word that stands once joins symbols before it
 unfoldable pub block_text : Dir → Bool → Block → List ℕ
 block_text side joins x =
-    if times_eq x.times one_time then (if joins then word_text side x.word else 32 ∷ word_text side x.word)
-    else 32 ∷ 40 ∷ (word_text side x.word ++ (41 ∷ 94 ∷ power_text x.times))
+    if times_eq x.times one_time then (if joins then word_digits side x.word else 32 ∷ word_digits side x.word)
+    else 32 ∷ 40 ∷ (word_digits side x.word ++ (41 ∷ 94 ∷ power_text x.times))
 
 abbrev pub half_text : Dir → Bool → List Block → List ℕ
 half_text side joins [] = []
@@ -61,16 +61,16 @@ half_text side joins (x ∷ xs) = block_text side joins x ++ half_text side (tim
 abbrev pub state_text : ℕ → List ℕ
 state_text q = if nat_lt q state_limit then letter_of_state q else []
 
-abbrev pub head_text : Dir → ℕ → List ℕ
-head_text L q = 32 ∷ 60 ∷ state_text q
-head_text R q = 32 ∷ (state_text q ++ 62 ∷ [])
+abbrev pub head_sign : Dir → ℕ → List ℕ
+head_sign L q = 32 ∷ 60 ∷ state_text q
+head_sign R q = 32 ∷ (state_text q ++ 62 ∷ [])
 
 abbrev pub end_text : Bool → List ℕ
 end_text open_end = if open_end then codes "*" else codes "$"
 
 unfoldable pub form_text : Bool → Bool → Form → List ℕ
 form_text open_left open_right f = sentence (
-    end_text open_left ∷ half_text L false (reverse f.left) ∷ head_text f.heading f.state
+    end_text open_left ∷ half_text L false (reverse f.left) ∷ head_sign f.heading f.state
     ∷ half_text R false f.right ∷ codes " " ∷ end_text open_right ∷ [])
 
 -- what stands for the variables of a rule, up to the last that isn't 0

@@ -38,7 +38,7 @@ pub(crate) fn is_once(times: Exponent) -> bool
 }
 
 // Adds a multiple of a variable to a sum.
-#[tactic(auto, unfolding(crate::specs::Notation::multiple, crate::specs::Notation::behind))]
+#[tactic(auto, unfolding(crate::specs::Notation::multiple, crate::specs::Notation::added_to))]
 fn add_multiple(factor: u32, variable: &str, sum: &mut String) -> Result<(), NoMemory>
     ensures { IfOk result (λ _. string_bytes sum.new ≡ multiple (string_bytes sum.old) factor variable.now) }
 {
@@ -54,7 +54,7 @@ fn add_multiple(factor: u32, variable: &str, sum: &mut String) -> Result<(), NoM
     sum.push_str(variable)
 }
 
-// Its multiples of variables.
+// The multiples of variables in an exponent.
 #[tactic(auto, unfolding(crate::specs::Notation::exponent_sum))]
 fn sum_of(alloc: Global, times: Exponent) -> Result<String, NoMemory>
     ensures { IfOk result (λ sum. string_bytes sum ≡ exponent_sum times) }
@@ -68,7 +68,7 @@ fn sum_of(alloc: Global, times: Exponent) -> Result<String, NoMemory>
 }
 
 /// An exponent as a sum.
-#[tactic(auto, unfolding(crate::specs::Notation::exponent_text, crate::specs::Notation::behind))]
+#[tactic(auto, unfolding(crate::specs::Notation::exponent_text, crate::specs::Notation::added_to))]
 pub(crate) fn exponent_text(alloc: Global, times: Exponent) -> Result<String, NoMemory>
     ensures { IfOk result (λ text. string_bytes text ≡ exponent_text times) }
 {
@@ -147,7 +147,7 @@ pub(crate) fn value_text(alloc: Global, variable: &str, times: Exponent) -> Resu
     format!(in alloc; " {variable}={value}")
 }
 
-/// The same, and nothing for 0.
+/// What stands for a variable at first, and nothing for 0.
 pub(crate) fn value_unless_none(
     alloc: Global,
     variable: &str,

@@ -3,7 +3,7 @@ ghost use Rattle.std.specs.Prelude.{◌≡◌, IfOk, false, map, string_bytes};
 ghost use Rattle.machine_text.specs.Text.{symbol_byte};
 ghost use Rattle.law_induction.specs.Words.{word_symbols};
 ghost use Rattle.kind_rules.specs.Views.{form_in};
-ghost use Rattle.cmd_explain.specs.Notation.{block_text, end_text, form_text, half_text, head_text, state_text, word_text};
+ghost use Rattle.cmd_explain.specs.Notation.{block_text, end_text, form_text, half_text, head_sign, state_text, word_digits};
 
 use crate::exponents::{is_once, power_text};
 use crate::halting::{digit_of, letter_of_state};
@@ -25,8 +25,8 @@ fn digits_of(alloc: Global, symbols: &[Sym]) -> Result<String, NoMemory>
 }
 
 // A word on a half tape as it is read from left to right.
-fn word_text(alloc: Global, side: Dir, word: u64) -> Result<String, NoMemory>
-    ensures { IfOk result (λ text. string_bytes text ≡ word_text side word) }
+fn word_digits(alloc: Global, side: Dir, word: u64) -> Result<String, NoMemory>
+    ensures { IfOk result (λ text. string_bytes text ≡ word_digits side word) }
 {
     let mut symbols = symbols_of(alloc, word)?;
     match side {
@@ -41,7 +41,7 @@ fn word_text(alloc: Global, side: Dir, word: u64) -> Result<String, NoMemory>
 fn block_text(alloc: Global, side: Dir, joins: bool, block: &Block) -> Result<String, NoMemory>
     ensures { IfOk result (λ text. string_bytes text ≡ block_text side joins block.now) }
 {
-    let word = word_text(alloc, side, block.word)?;
+    let word = word_digits(alloc, side, block.word)?;
     if is_once(block.times) {
         if joins {
             return Ok(word);
@@ -77,8 +77,8 @@ fn state_text(state: u8) -> &'static str
 }
 
 // The head.
-fn head_text(alloc: Global, heading: Dir, state: u8) -> Result<String, NoMemory>
-    ensures { IfOk result (λ text. string_bytes text ≡ head_text heading state) }
+fn head_sign(alloc: Global, heading: Dir, state: u8) -> Result<String, NoMemory>
+    ensures { IfOk result (λ text. string_bytes text ≡ head_sign heading state) }
 {
     let state = state_text(state);
     match heading {
@@ -106,7 +106,7 @@ pub(crate) fn form_text(
     let mut left = Vec::from_slice(alloc, &form.left)?;
     left.reverse();
     let left = half_text(alloc, Dir::L, &left)?;
-    let head = head_text(alloc, form.heading, form.state)?;
+    let head = head_sign(alloc, form.heading, form.state)?;
     let right = half_text(alloc, Dir::R, &form.right)?;
     let (start, end) = (end_text(open_left), end_text(open_right));
     format!(in alloc; "{start}{left}{head}{right} {end}")

@@ -11,19 +11,19 @@ use std::io::{self, Write};
 
 /// A form of which a command line says whether it is JSON.
 #[derive(Clone, Copy, Debug, PartialEq, Eq, Drop)]
-pub enum Form {
+pub enum LinesOrJson {
     /// As lines.
     Lines,
     /// As one JSON object, which doesn't say what wasn't kept of a ledger.
     Json,
 }
 
-impl Form {
+impl LinesOrJson {
     /// JSON where that is asked for, otherwise lines.
-    pub fn of(json: bool) -> Form
+    pub fn of(json: bool) -> LinesOrJson
         ensures { result ≡ form_of json }
     {
-        if json { Form::Json } else { Form::Lines }
+        if json { LinesOrJson::Json } else { LinesOrJson::Lines }
     }
 }
 
@@ -36,7 +36,7 @@ pub enum Made {
     Json(Vec<u8>),
 }
 
-impl ReportForm for Form {
+impl ReportForm for LinesOrJson {
     ghost use Rattle.cmd_json.specs.Forms.{IsText, bytes_of};
 
     type Made = Made;
@@ -47,8 +47,8 @@ impl ReportForm for Form {
 
     fn make(&self, alloc: Global, told: Told, left: &Left) -> Result<Made, NoMemory> {
         match self {
-            Form::Lines => Ok(Made::Lines(AsLines.make(alloc, told, left)?)),
-            Form::Json => Ok(Made::Json(told_text(alloc, told)?)),
+            LinesOrJson::Lines => Ok(Made::Lines(AsLines.make(alloc, told, left)?)),
+            LinesOrJson::Json => Ok(Made::Json(told_text(alloc, told)?)),
         }
     }
 

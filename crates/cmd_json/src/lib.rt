@@ -20,7 +20,7 @@ mod values;
 
 pub use checked::{check_json_for, check_json_line};
 pub use decided::{decide_json_for, decide_json_line};
-pub use form::Form;
+pub use form::LinesOrJson;
 pub use report::report_json;
 pub use told::{explain_json_for, explain_json_line};
 pub use tree_reports::complete_boards_tell_their_tree;

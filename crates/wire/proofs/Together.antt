@@ -14,7 +14,7 @@ use Rattle.text.specs.Lines.{BoundedLine}
 use Rattle.wire.specs.Lines.{Stream}
 use Rattle.wire.specs.Device.{grown, IsBegun}
 use Rattle.wire.specs.Fulfilled.{Answering, AreKeptSoFar, BrokenTogether, Fulfilled, FaultedTogether, Handed, IsPartlyKept, IsUnanswered, Reply, Scene, cut_to, fulfilled, kept_text, scene, sent_by}
-use Rattle.wire.specs.inside.Gathering.{AreUncut, Gathers, IsTaken, appended_by}
+use Rattle.wire.specs.inside.Gathering.{AreUncut, HasGathered, TakesAnswer, appended_by}
 use Rattle.wire.proofs.Replies.{carried_more, order_more}
 use Rattle.wire.proofs.Devices.{grown_twice}
 
@@ -103,7 +103,7 @@ module _ {N : Type 0} (answers : Answering N) where
   -- nothing is gathered
   pub gathered_none : (old : Scene N) (events left : List Happening) (text sent : Option (List ℕ)) (gathered : Out) (node : N)
       → Handed answers old events left (scene node text sent) → gathered.cut ≡ None → gathered.append.items ≡ [] → gathered.frames.items ≡ []
-      → Gathers answers old events left text sent gathered node
+      → HasGathered answers old events left text sent gathered node
   gathered_none old events left text sent gathered node before cut append frames = record {
     first = node;
     replies = [];
@@ -118,13 +118,13 @@ module _ {N : Type 0} (answers : Answering N) where
 
   -- what is gathered, fulfilled
   pub gathered_whole : (old : Scene N) (events left : List Happening) (text sent : Option (List ℕ)) (gathered : Out) (node : N)
-      → Gathers answers old events left text sent gathered node
+      → HasGathered answers old events left text sent gathered node
       → Handed answers old events left (scene node (grown text gathered.append.items) (grown sent gathered.frames.items))
   gathered_whole old events left text sent gathered node is =
       handed_after old (scene is.first text sent) _ events left is.replies is.before is.answered
 
   module _ (old : Scene N) (events left : List Happening) (text sent : Option (List ℕ)) (gathered : Out) (node : N) (event : Happening)
-      (is : Gathers answers old events (event ∷ left) text sent gathered node) (out : Out) (next : N) (given : answers node event (Ok out) next) where
+      (is : HasGathered answers old events (event ∷ left) text sent gathered node) (out : Out) (next : N) (given : answers node event (Ok out) next) where
     abbrev reply : Reply
     reply = record { to = event; out = out }
 
@@ -137,7 +137,7 @@ module _ {N : Type 0} (answers : Answering N) where
 
     -- one answer more
     pub gathered_more : (new : Out) → out.cut ≡ None → new.cut ≡ None → new.append.items ≡ gathered.append.items ++ out.append.items
-        → new.frames.items ≡ gathered.frames.items ++ out.frames.items → Gathers answers old events left text sent new next
+        → new.frames.items ≡ gathered.frames.items ++ out.frames.items → HasGathered answers old events left text sent new next
     gathered_more new uncut cut append frames =
         let texts : kept_text out (grown text gathered.append.items) ≡ grown text new.append.items =
         uncut_text out (grown text gathered.append.items) uncut ∙ grown_twice text gathered.append.items out.append.items ∙ ap (grown text) (sym append) in
@@ -156,11 +156,11 @@ module _ {N : Type 0} (answers : Answering N) where
         }
 
     -- an answer that is taken
-    pub taken : (new : Out) (new_text new_sent : Option (List ℕ)) → new.cut ≡ gathered.cut → IsTaken gathered out text sent new new_text new_sent
-        → Gathers answers old events left new_text new_sent new next
+    pub taken : (new : Out) (new_text new_sent : Option (List ℕ)) → new.cut ≡ gathered.cut → TakesAnswer gathered out text sent new new_text new_sent
+        → HasGathered answers old events left new_text new_sent new next
     taken new new_text new_sent cut (inl (uncut, append, frames, texts, sents)) =
-        subst (λ (t : Option (List ℕ)). Gathers answers old events left t new_sent new next) (sym texts)
-        (subst (λ (s : Option (List ℕ)). Gathers answers old events left text s new next) (sym sents)
+        subst (λ (t : Option (List ℕ)). HasGathered answers old events left t new_sent new next) (sym texts)
+        (subst (λ (s : Option (List ℕ)). HasGathered answers old events left text s new next) (sym sents)
         (gathered_more new uncut (cut ∙ is.cut) append frames))
     taken new new_text new_sent cut (inr (append, frames, texts, sents)) =
         let whole = handed_after old (scene is.first text sent) _ events left (is.replies ++ (reply ∷ [])) behind more in
@@ -212,7 +212,7 @@ module _ {N : Type 0} (answers : Answering N) where
 
   -- what is gathered isn't fulfilled, and behind it something may have brought no answer
   pub unfulfilled : (is_stopped : N → Type 0) (old : Scene N) (events unanswered left : List Happening) (text sent : Option (List ℕ)) (gathered : Out) (node next : N)
-      → Gathers answers old events (unanswered ++ left) text sent gathered node → IsUnanswered answers node unanswered next
+      → HasGathered answers old events (unanswered ++ left) text sent gathered node → IsUnanswered answers node unanswered next
       → (new : Scene N) (r : Result (Unit {0}) TurnFault)
       → IfErr r (λ fault. (fault ≡ LinkFault) ⊎ (fault ≡ LedgerFault))
       → (r ≡ Err LinkFault → (new.node ≡ next) × (new.text ≡ kept_text gathered text) × IsBegun sent gathered.frames.items new.sent)
@@ -246,7 +246,7 @@ module _ {N : Type 0} (answers : Answering N) where
 
   -- the node gave no answer, when what was gathered was fulfilled
   pub node_faulted : (is_stopped : N → Type 0) (old : Scene N) (events left : List Happening) (text sent : Option (List ℕ)) (gathered : Out) (node : N) (event : Happening)
-      → Gathers answers old events (event ∷ left) text sent gathered node → (fault : NodeFault) (new : Scene N) → answers node event (Err fault) new.node
+      → HasGathered answers old events (event ∷ left) text sent gathered node → (fault : NodeFault) (new : Scene N) → answers node event (Err fault) new.node
       → new.text ≡ kept_text gathered text → new.sent ≡ grown sent gathered.frames.items
       → BrokenTogether answers is_stopped old events (Node fault) left new
   node_faulted is_stopped old events left text sent gathered node event is fault new given texts sents = record {

@@ -94,7 +94,8 @@ sent_by replies = flat_map (λ reply. reply.out.frames.items) replies
 -- a ledger has the parts of the first of some answers whole, and at most the cut and a beginning of the next one's
 abbrev pub AreKeptSoFar : List Reply → Option (List ℕ) → Option (List ℕ) → Type 0
 AreKeptSoFar [] old new = new ≡ old
-AreKeptSoFar (reply ∷ replies) old new = IsPartlyKept reply.out old new ⊎ AreKeptSoFar replies (kept_text reply.out old) new
+AreKeptSoFar (reply ∷ replies) old new =
+    IsPartlyKept reply.out old new ⊎ AreKeptSoFar replies (kept_text reply.out old) new
 
 -- what was handed over last, if it brought no answer
 abbrev pub IsUnanswered : {N : Type 0} → Answering N → N → List Happening → N → Type 0

@@ -5,7 +5,7 @@ ghost use Rattle.wire.specs.Device.{IsBegun, grown};
 ghost use Rattle.wire.specs.Happening.{Happening};
 ghost use Rattle.wire.specs.Lines.{known};
 ghost use Rattle.wire.specs.Turned.{EndsInStep, IsBroken, devices, event_of, events_of, frame_of};
-ghost use Rattle.wire.specs.inside.Gathering.{Gathers, IsTaken, text_gathered};
+ghost use Rattle.wire.specs.inside.Gathering.{HasGathered, TakesAnswer, text_gathered};
 
 use crate::fault::Fault;
 use crate::fulfilling::{fulfil, keep, send_all};
@@ -97,7 +97,7 @@ fn fulfil_both<N: Node, L: Link, W: LedgerOut>(
     Ok(())
 }
 
-// Gathers an answer, or fulfils it with those that are gathered.
+// HasGathered an answer, or fulfils it with those that are gathered.
 fn take<N: Node, L: Link, W: LedgerOut>(
     node: &mut N,
     gathered: &mut Out,
@@ -107,7 +107,7 @@ fn take<N: Node, L: Link, W: LedgerOut>(
 ) -> Result<(), TurnFault>
     ensures ok { OnOk result ((node.new ≡ node.old) × (gathered.new.cut ≡ gathered.old.cut)
         × (W.failures ledger.new ≡ W.failures ledger.old) × (L.failures link.new ≡ L.failures link.old)
-        × IsTaken gathered.old out.now (W.text ledger.old) (L.sent link.old) gathered.new (W.text ledger.new)
+        × TakesAnswer gathered.old out.now (W.text ledger.old) (L.sent link.old) gathered.new (W.text ledger.new)
         (L.sent link.new)) }
     ensures link { result ≡ Err TurnFault.LinkFault → (node.new ≡ node.old)
         × (W.text ledger.new ≡ kept_text out.now (kept_text gathered.old (W.text ledger.old)))
@@ -138,11 +138,11 @@ fn gather<N: Node, L: Link, W: LedgerOut>(
     ledger: &mut W,
 ) -> Result<(), TurnFault>
     ensures ok { OnOk result ((old : Scene N) (events left : List Happening)
-        → Gathers N.answers old events (event_of (known line.now) ∷ left) (W.text ledger.old) (L.sent link.old)
+        → HasGathered N.answers old events (event_of (known line.now) ∷ left) (W.text ledger.old) (L.sent link.old)
         gathered.old node.old
-        → Gathers N.answers old events left (W.text ledger.new) (L.sent link.new) gathered.new node.new) }
+        → HasGathered N.answers old events left (W.text ledger.new) (L.sent link.new) gathered.new node.new) }
     ensures err { IfErr result (λ fault. (old : Scene N) (events left : List Happening)
-        → Gathers N.answers old events (event_of (known line.now) ∷ left) (W.text ledger.old) (L.sent link.old)
+        → HasGathered N.answers old events (event_of (known line.now) ∷ left) (W.text ledger.old) (L.sent link.old)
         gathered.old node.old
         → BrokenTogether N.answers N.is_stopped old events fault left
         (scene node.new (W.text ledger.new) (L.sent link.new))) }

@@ -17,7 +17,7 @@ appended_by replies = flat_map (λ reply. reply.out.append.items) replies
 
 -- of these events the first were handed over, and their answers fulfilled; the answers to the next, none of which cuts,
 -- are gathered as one
-pub record Gathers {N : Type 0} (answers : Answering N) (old : Scene N) (events left : List Happening)
+pub record HasGathered {N : Type 0} (answers : Answering N) (old : Scene N) (events left : List Happening)
     (text sent : Option (List ℕ)) (gathered : Out) (node : N) : Type 0 where
   pub first : N
   pub replies : List Reply
@@ -30,8 +30,9 @@ pub record Gathers {N : Type 0} (answers : Answering N) (old : Scene N) (events 
   pub frames : gathered.frames.items ≡ sent_by replies
 
 -- an answer is gathered behind others, or it is fulfilled with them, and nothing is gathered then
-abbrev pub IsTaken : Out → Out → Option (List ℕ) → Option (List ℕ) → Out → Option (List ℕ) → Option (List ℕ) → Type 0
-IsTaken gathered out text sent new new_text new_sent =
+abbrev pub TakesAnswer : Out → Out → Option (List ℕ) → Option (List ℕ) → Out → Option (List ℕ) → Option (List ℕ)
+    → Type 0
+TakesAnswer gathered out text sent new new_text new_sent =
     ((out.cut ≡ None) × (new.append.items ≡ gathered.append.items ++ out.append.items)
     × (new.frames.items ≡ gathered.frames.items ++ out.frames.items) × (new_text ≡ text) × (new_sent ≡ sent))
     ⊎ ((new.append.items ≡ []) × (new.frames.items ≡ [])

@@ -1,7 +1,7 @@
 use Rattle.std.proofs.Common.{sym, subst, ap, List, ℕ, [], ◌∷◌, Ok, Err}
 use Rattle.std.proofs.lemmas.Result.{on_ok_weaker, IfErr-weaker, err_from_is_err_and}
 use Rattle.wire.specs.Fulfilled.{scene}
-use Rattle.wire.specs.inside.Gathering.{Gathers}
+use Rattle.wire.specs.inside.Gathering.{HasGathered}
 use Rattle.wire.specs.Happening.{Came}
 use Rattle.wire.specs.Turned.{event_of}
 use Rattle.wire.specs.Lines.{known}
@@ -16,7 +16,7 @@ returns-in-Ok-clause-ok g c =
     let given = subst (λ (frame : List ℕ). answers c.args.node.now (Came frame) (Ok c.in-Ok.out) c.on.new.self) c.frame_of.ensures c.in-Ok.ensures.answer in
     on_ok_weaker c.take.result
     (λ p. λ old events left is.
-    subst (λ n. Gathers answers old events left (g.W.LedgerOut.text c.take.new.ledger) (g.L.Link.sent c.take.new.link) c.take.new.gathered n) (sym p.0)
+    subst (λ n. HasGathered answers old events left (g.W.LedgerOut.text c.take.new.ledger) (g.L.Link.sent c.take.new.link) c.take.new.gathered n) (sym p.0)
     (taken answers old events left text sent c.args.gathered.now c.args.node.now (event_of (known c.args.line.now)) is c.in-Ok.out c.on.new.self given
     c.take.new.gathered _ _ p.1 p.4))
     c.take.ensures.ok

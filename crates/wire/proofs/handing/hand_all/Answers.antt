@@ -6,7 +6,7 @@ use Rattle.wire.specs.Device.{grown}
 use Rattle.wire.specs.Fulfilled.{Handed, kept_text, scene}
 use Rattle.wire.specs.Lines.{Stream}
 use Rattle.wire.specs.Turned.{IsBroken, events_of}
-use Rattle.wire.specs.inside.Gathering.{Gathers}
+use Rattle.wire.specs.inside.Gathering.{HasGathered}
 use Rattle.wire.proofs.Replies.{handed_none}
 use Rattle.wire.proofs.Together.{at_scene, gathered_none, gathered_whole, grown_none, lines_left, uncut_text, unfulfilled}
 use Rattle.wire.proofs.handing.hand_all.Goals as goal
@@ -34,8 +34,8 @@ returns-clause-ok g c =
     let events = events_of c.args.lines.now.waiting in
     let text = g.W.LedgerOut.text c.lines.ledger in
     let none = c.in_default.ensures.none in
-    let gathers : Gathers answers old events [] text (g.L.Link.sent c.lines.link) c.lines.gathered c.lines.node =
-    subst (λ (w : List BoundedLine). Gathers answers old events (events_of w) text (g.L.Link.sent c.lines.link) c.lines.gathered c.lines.node) none.0 c.lines.invariant.gathers in
+    let gathers : HasGathered answers old events [] text (g.L.Link.sent c.lines.link) c.lines.gathered c.lines.node =
+    subst (λ (w : List BoundedLine). HasGathered answers old events (events_of w) text (g.L.Link.sent c.lines.link) c.lines.gathered c.lines.node) none.0 c.lines.invariant.gathers in
     on_ok_weaker c.fulfil.result
     (λ p. (
       at_scene answers old events [] _ _ _ _ _ _ p.0 (p.1 ∙ uncut_text c.lines.gathered text gathers.cut) p.2 (gathered_whole answers old events [] text _ c.lines.gathered c.lines.node gathers),

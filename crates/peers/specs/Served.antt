@@ -111,7 +111,7 @@ abbrev pub noted_if : Option (List Incoming) → Option Incoming → Option (Lis
 noted_if arrived None = arrived
 noted_if arrived (Some came) = noted arrived (came ∷ [])
 
--- a fault: nothing came; or memory for a new peer was refused; or a piece of a peer was taken as far as the line that
+-- a fault: nothing came; or memory for a new peer was refused; or a piece of a peer was taken as far as the lines that
 -- brought it; or time had passed, and the node didn't answer, or the ledger failed
 abbrev pub Fails : {N : Type 0} → Answering N → (N → Type 0) → Served N → Option Incoming → TurnFault → Served N
     → Type 0

@@ -20,7 +20,7 @@ use wire::{Event, LedgerOut, Node, TurnFault, begin};
 ///
 /// `LinkFault` where the connections failed, and nothing came, or where memory was refused for answers. `NoMemory` where it
 /// was refused for a new peer, or for the lines of a piece, which are lost. `LedgerFault` where the ledger failed: no frame
-/// of that answer waits, and the node is stopped. `Node` where the node didn't answer.
+/// of the answers to that piece waits, and the node is stopped. `Node` where the node didn't answer.
 pub fn take_arrival<C: Connections, N: Node, W: LedgerOut>(
     connections: &mut C,
     buf: &mut [u8],

@@ -1,12 +1,13 @@
 -- What devices hold after several calls.
-use Rattle.std.proofs.Common.{◌≡◌, ◌∙◌, sym, refl, ap, ℕ, ◌+◌, ◌-◌, ◌≤◌, List, ◌++◌, take, drop, length, append_assoc, arith, length-drop}
-use Rattle.std.specs.Prelude.{Option, Some, None}
-use Rattle.std.proofs.Math.Seq.{take-add}
-use Rattle.std.proofs.lemmas.List.{take_all}
+use Rattle.std.proofs.Common.{◌≡◌, ◌∙◌, sym, refl, ap, inl, inr, ℕ, ◌+◌, ◌-◌, ◌≤◌, List, ◌++◌, take, drop, length, append_assoc, arith, length-drop}
+use Rattle.std.specs.Prelude.{◌⊎◌, Option, Some, None}
+use Rattle.std.proofs.lemmas.Bool.{cases_lt}
+use Rattle.std.proofs.Math.Seq.{take-add, take-append-add, take-append_seam}
+use Rattle.std.proofs.lemmas.List.{take_all, take-append-le}
 use Rattle.wire.specs.Device.{grown, IsBegun}
 
 -- bytes after bytes
-grown_twice : (text : Option (List ℕ)) (xs ys : List ℕ) → grown (grown text xs) ys ≡ grown text (xs ++ ys)
+pub grown_twice : (text : Option (List ℕ)) (xs ys : List ℕ) → grown (grown text xs) ys ≡ grown text (xs ++ ys)
 grown_twice (Some text) xs ys = ap Some (append_assoc text xs ys)
 grown_twice None xs ys = refl
 
@@ -34,3 +35,15 @@ pub within_part : (bytes : List ℕ) (done n : ℕ) → done ≤ length bytes
 within_part bytes done n within less =
     let e : length (take (length bytes - done) (drop done bytes)) ≡ length bytes - done = ap length (rest_whole bytes done) ∙ length-drop done bytes in
     omega arith
+
+-- a beginning of the first of some bytes
+pub begun_first : (text new : Option (List ℕ)) (xs ys : List ℕ) → IsBegun text xs new → IsBegun text (xs ++ ys) new
+begun_first text new xs ys begun = elim (cases_lt begun.0 (length xs)) [
+  | inl less ↦ (begun.0, begun.1 ∙ ap (grown text) (sym (take-append-le begun.0 xs ys (omega (arith, less)))))
+  | inr more ↦ (length xs, begun.1 ∙ ap (grown text) (take_all begun.0 xs (omega (arith, more)) ∙ sym (take-append_seam xs ys)))
+]
+
+-- all of the first of some bytes, and a beginning of the others
+pub begun_next : (text new : Option (List ℕ)) (xs ys : List ℕ) → IsBegun (grown text xs) ys new → IsBegun text (xs ++ ys) new
+begun_next text new xs ys begun =
+    (length xs + begun.0, begun.1 ∙ grown_twice text xs (take begun.0 ys) ∙ ap (grown text) (sym (take-append-add xs ys begun.0)))

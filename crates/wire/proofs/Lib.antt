@@ -5,3 +5,4 @@ pub mod OneLine
 pub mod Devices
 pub mod Outcomes
 pub mod Replies
+pub mod Together

@@ -12,7 +12,7 @@ pub handed_none : {N : Type 0} (answers : Answering N) (old : Scene N) (events :
 handed_none answers old events = record { replies = []; order = refl; whole = refl }
 
 -- one more answer is fulfilled
-carried_more : {N : Type 0} (answers : Answering N) (old at : Scene N) (replies : List Reply)
+pub carried_more : {N : Type 0} (answers : Answering N) (old at : Scene N) (replies : List Reply)
     (event : Happening) (out : Out) (node : N)
     → Fulfilled answers old replies at → answers at.node event (Ok out) node
     → Fulfilled answers old (replies ++ (record { to = event; out = out } ∷ [])) (fulfilled out node at)
@@ -22,7 +22,7 @@ carried_more answers old at (reply ∷ replies) event out node (n, first, whole)
     (n, first, carried_more answers (fulfilled reply.out n old) at replies event out node whole given)
 
 -- the events behind those that were handed over
-order_more : (replies : List Reply) (reply : Reply) (left : List Happening)
+pub order_more : (replies : List Reply) (reply : Reply) (left : List Happening)
     → map (λ (r : Reply). r.to) replies ++ (reply.to ∷ left) ≡ map (λ (r : Reply). r.to) (replies ++ (reply ∷ [])) ++ left
 order_more [] reply left = refl
 order_more (first ∷ replies) reply left = ap (λ (events : List Happening). first.to ∷ events) (order_more replies reply left)

@@ -1,5 +1,6 @@
 -- What it means that a node's answers are fulfilled.
 use Rattle.std.specs.Prelude.{◌≡◌, ◌⊎◌, ℕ, List, [], ◌∷◌, ◌++◌, Option, Some, None, Result, Ok, Err, map, take}
+use Rattle.std.specs.List.{flat_map}
 use Rattle.wire.specs.declared.node.Out.{Out}
 use Rattle.wire.specs.declared.node.NodeFault.{NodeFault}
 use Rattle.wire.specs.declared.turned.TurnFault.{TurnFault}
@@ -85,3 +86,47 @@ pub record BrokenOff {N : Type 0} (answers : Answering N) (is_stopped : N → Ty
   pub at : Scene N
   pub before : Handed answers old events (event ∷ left) at
   pub faulted : Faulted answers is_stopped at event fault new
+
+-- what answers send, one after another
+abbrev pub sent_by : List Reply → List ℕ
+sent_by replies = flat_map (λ reply. reply.out.frames.items) replies
+
+-- a ledger has the parts of the first of some answers whole, and at most the cut and a beginning of the next one's
+abbrev pub AreKeptSoFar : List Reply → Option (List ℕ) → Option (List ℕ) → Type 0
+AreKeptSoFar [] old new = new ≡ old
+AreKeptSoFar (reply ∷ replies) old new =
+    IsPartlyKept reply.out old new ⊎ AreKeptSoFar replies (kept_text reply.out old) new
+
+-- what was handed over last, if it brought no answer
+abbrev pub IsUnanswered : {N : Type 0} → Answering N → N → List Happening → N → Type 0
+IsUnanswered answers old [] new = new ≡ old
+IsUnanswered answers old (event ∷ []) new = (fault : NodeFault) × answers old event (Err fault) new
+IsUnanswered answers old (event ∷ (next ∷ events)) new = ⊥
+
+-- these answers came in turn, to be fulfilled together: the ledger's part of all of them before any frame is sent.
+-- What came of that: the link failed, when their parts were whole, under their frames; the ledger failed under their
+-- parts, before any of their frames was sent, and the node was stopped; or all was fulfilled, and the node gave no
+-- answer to what was handed over next
+abbrev pub FaultedTogether : {N : Type 0} → Answering N → (N → Type 0) → Scene N → List Reply → List Happening
+    → TurnFault → Scene N → Type 0
+FaultedTogether {N} answers is_stopped old replies unanswered LinkFault new =
+    (whole : Scene N) × Fulfilled answers old replies whole × IsUnanswered answers whole.node unanswered new.node
+    × (new.text ≡ whole.text) × IsBegun old.sent (sent_by replies) new.sent
+FaultedTogether {N} answers is_stopped old replies unanswered LedgerFault new =
+    (whole : Scene N) × (node : N) × Fulfilled answers old replies whole
+    × IsUnanswered answers whole.node unanswered node × is_stopped new.node
+    × AreKeptSoFar replies old.text new.text × (new.sent ≡ old.sent)
+FaultedTogether answers is_stopped old replies unanswered (Node fault) new =
+    (event : Happening) × (replies ≡ []) × (unanswered ≡ event ∷ [])
+    × Faulted answers is_stopped old event (Node fault) new
+FaultedTogether answers is_stopped old replies unanswered NoMemory new = ⊥
+
+-- these events were to be handed over, and some that follow one another brought a fault, when those before them were
+-- fulfilled
+pub record BrokenTogether {N : Type 0} (answers : Answering N) (is_stopped : N → Type 0) (old : Scene N)
+    (events : List Happening) (fault : TurnFault) (left : List Happening) (new : Scene N) : Type 0 where
+  pub replies : List Reply
+  pub unanswered : List Happening
+  pub at : Scene N
+  pub before : Handed answers old events (map (λ reply. reply.to) replies ++ (unanswered ++ left)) at
+  pub faulted : FaultedTogether answers is_stopped at replies unanswered fault new

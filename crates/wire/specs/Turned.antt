@@ -7,7 +7,7 @@ use Rattle.wire.specs.declared.turned.TurnFault.TheVariants.{LinkFault, LedgerFa
 use Rattle.wire.specs.Happening.{Happening, Came}
 use Rattle.text.specs.Lines.{BoundedLine}
 use Rattle.wire.specs.Lines.{Stream, fed}
-use Rattle.wire.specs.Fulfilled.{Answering, Scene, Handed, BrokenOff}
+use Rattle.wire.specs.Fulfilled.{Answering, Scene, Handed, BrokenTogether}
 
 -- a line as a frame: its bytes, and none of a line that was too long
 abbrev pub frame_of : BoundedLine → List ℕ
@@ -29,11 +29,11 @@ turn_of (byte ∷ bytes) = More
 abbrev pub IsUntouched : {N : Type 0} → Scene N → Stream → Stream → Scene N → Type 0
 IsUntouched old lines left new = (new ≡ old) × (left ≡ lines)
 
--- the lines were handed over as far as one that brought a fault; those behind it are left
+-- the lines were handed over as far as some that brought a fault; those behind them are left
 abbrev pub IsBroken : {N : Type 0} → Answering N → (N → Type 0) → Scene N → Stream → TurnFault → Stream → Scene N
     → Type 0
 IsBroken answers is_stopped old lines fault left new =
-    BrokenOff answers is_stopped old (events_of lines.waiting) fault (events_of left.waiting) new
+    BrokenTogether answers is_stopped old (events_of lines.waiting) fault (events_of left.waiting) new
     × (left.rest ≡ lines.rest)
 
 -- how a turn ended in which this piece came: all lines that then were whole were handed over; or it ended at one of

@@ -1,4 +1,5 @@
 -- For the code: when a message's text reads back, as far as is known where it is written.
+pub mod Gathering
 use Rattle.std.specs.Prelude.{◌≡◌, ◌<◌, ◌^◌, Ok}
 use Rattle.machine_text.specs.Packed.{IsTable}
 use Rattle.cert.specs.Grammar.{record_of, record_text}

@@ -30,8 +30,9 @@ pub fn begin<W: LedgerOut>(first: &Out, ledger: &mut W) -> Result<(), TurnFault>
 }
 
 /// Takes the next piece of a stream, and hands each line that then is whole to the node, in order, a line that is too long
-/// as an empty frame. Each answer is fulfilled before the next line is handed over: first its ledger's part, whole, and
-/// then its frames are sent. Nothing is received over the link. What a fault leaves is as after one of `turn`.
+/// as an empty frame. The answers are fulfilled together once all have come: first the ledger's part of all of them, whole
+/// and in one, and only then their frames are sent. Nothing is received over the link. What a fault leaves is as after one of
+/// `turn`.
 pub fn hand_piece<N: Node, L: Link, W: LedgerOut>(
     node: &mut N,
     lines: &mut Lines,
@@ -51,15 +52,15 @@ pub fn hand_piece<N: Node, L: Link, W: LedgerOut>(
 }
 
 /// Receives once, at most `MAX_PIECE_BYTES` bytes, and hands each line that then is whole to the node, in
-/// order, a line that is too long as an empty frame. Each answer is fulfilled before the next line is
-/// handed over: first its ledger's part, whole, and then its frames are sent. `Turn::End` where no byte
-/// came.
+/// order, a line that is too long as an empty frame. The answers are fulfilled together once all have come: first
+/// the ledger's part of all of them, whole and in one, and only then their frames are sent; an answer that cuts, or
+/// for which memory is refused, at once, with those before it. `Turn::End` where no byte came.
 ///
-/// After `LinkFault` the last answer's ledger part stands, whole, and a beginning of its frames may have been
-/// sent. After `LedgerFault` no frame of the last answer was sent, at most its cut and a beginning of the
-/// rest was made, and the node is stopped. After the node's own fault, or where memory was refused for the
-/// lines of the piece, each answer was fulfilled whole. Lines that weren't handed over stay in `lines`,
-/// but for the piece for which memory was refused.
+/// After `LinkFault` the ledger's part of the last answers stands, whole, and a beginning of their frames may have
+/// been sent. After `LedgerFault` no frame of the last answers was sent, a beginning of what they append stands at
+/// most, and the node is stopped. After the node's own fault, or where memory was refused for the lines of the
+/// piece, each answer was fulfilled whole. Lines that weren't handed over stay in `lines`, but for the piece for
+/// which memory was refused.
 pub fn turn<N: Node, L: Link, W: LedgerOut>(
     node: &mut N,
     lines: &mut Lines,

@@ -1,17 +1,19 @@
-// Handing lines to a node, and fulfilling out what it answers.
-ghost use Rattle.std.specs.Prelude.{◌≡◌, ◌∷◌, [], length, Ok, IfErr, OnOk};
-ghost use Rattle.wire.specs.Fulfilled.{Faulted, Handed, kept_text, scene};
-ghost use Rattle.wire.specs.Device.{grown};
+// Handing lines to a node, and fulfilling what it answers.
+ghost use Rattle.std.specs.Prelude.{◌≡◌, ◌≢◌, ◌⊎◌, ◌∷◌, ◌++◌, [], List, None, false, true, length, IfErr, IfSome, OnOk, OnErr, Err};
+ghost use Rattle.wire.specs.Fulfilled.{BrokenTogether, Handed, IsPartlyKept, Scene, kept_text, scene};
+ghost use Rattle.wire.specs.Device.{IsBegun, grown};
+ghost use Rattle.wire.specs.Happening.{Happening};
 ghost use Rattle.wire.specs.Lines.{known};
 ghost use Rattle.wire.specs.Turned.{EndsInStep, IsBroken, devices, event_of, events_of, frame_of};
-ghost use Rattle.wire.specs.declared.node.Out.{Out as Answer};
+ghost use Rattle.wire.specs.inside.Gathering.{HasGathered, TakesAnswer, text_gathered};
 
-use crate::fulfilling::fulfil;
+use crate::fault::Fault;
+use crate::fulfilling::{fulfil, keep, send_all};
 use crate::ledger_out::LedgerOut;
 use crate::line::Line;
 use crate::lines::Lines;
 use crate::link::Link;
-use crate::node::{Event, Node};
+use crate::node::{Event, Node, Out};
 use crate::turned::TurnFault;
 
 // A line as a frame.
@@ -24,30 +26,145 @@ fn frame_of(line: &Line) -> &[u8]
     }
 }
 
-// Hands one line to the node, and fulfils its answer.
-pub(crate) fn hand<N: Node, L: Link, W: LedgerOut>(
+// Puts an answer behind those that are gathered, and says whether it could: not where it cuts, or memory is refused.
+fn join(gathered: &mut Out, next: &Out) -> bool
+    ensures cut { gathered.new.cut ≡ gathered.old.cut }
+    ensures uncut { result ≡ true → next.now.cut ≡ None }
+    ensures append { result ≡ true
+        → gathered.new.append.items ≡ gathered.old.append.items ++ next.now.append.items }
+    ensures frames { result ≡ true
+        → gathered.new.frames.items ≡ gathered.old.frames.items ++ next.now.frames.items }
+    ensures apart { result ≡ false → (gathered.new.append.items ≡ gathered.old.append.items)
+        × (gathered.new.frames.items ≡ gathered.old.frames.items) }
+{
+    if next.cut.is_some() {
+        return false;
+    }
+    let len = gathered.append.len();
+    if gathered.append.extend_from_slice(&next.append).is_err() {
+        return false;
+    }
+    if gathered.frames.extend_from_slice(&next.frames).is_err() {
+        gathered.append.truncate(len);
+        return false;
+    }
+    true
+}
+
+// Sends all of some bytes, and then all of others.
+fn send_both<L: Link>(link: &mut L, first: &[u8], next: &[u8]) -> Result<(), Fault>
+    ensures ok { OnOk result ((L.sent link.new ≡ grown (grown (L.sent link.old) first.now) next.now)
+        × (L.failures link.new ≡ L.failures link.old)) }
+    ensures err { OnErr result ((L.failures link.old ≢ L.failures link.new)
+        × IsBegun (L.sent link.old) (first.now ++ next.now) (L.sent link.new)) }
+    ensures waiting { L.waiting link.new ≡ L.waiting link.old }
+{
+    send_all(link, first)?;
+    send_all(link, next)
+}
+
+// Carries out two answers: first the ledger's part of both, whole, and only then their frames. Where the ledger fails, the
+// node is stopped.
+fn fulfil_both<N: Node, L: Link, W: LedgerOut>(
     node: &mut N,
-    line: Line,
+    link: &mut L,
+    ledger: &mut W,
+    first: &Out,
+    next: &Out,
+) -> Result<(), TurnFault>
+    ensures ok { OnOk result ((node.new ≡ node.old)
+        × (W.text ledger.new ≡ kept_text next.now (kept_text first.now (W.text ledger.old)))
+        × (L.sent link.new ≡ grown (grown (L.sent link.old) first.now.frames.items) next.now.frames.items)
+        × (W.failures ledger.new ≡ W.failures ledger.old) × (L.failures link.new ≡ L.failures link.old)) }
+    ensures link { result ≡ Err TurnFault.LinkFault → (node.new ≡ node.old)
+        × (W.text ledger.new ≡ kept_text next.now (kept_text first.now (W.text ledger.old)))
+        × IsBegun (L.sent link.old) (first.now.frames.items ++ next.now.frames.items) (L.sent link.new)
+        × (L.failures link.old ≢ L.failures link.new) }
+    ensures ledger { result ≡ Err TurnFault.LedgerFault → N.is_stopped node.new
+        × (IsPartlyKept first.now (W.text ledger.old) (W.text ledger.new)
+        ⊎ IsPartlyKept next.now (kept_text first.now (W.text ledger.old)) (W.text ledger.new))
+        × (L.sent link.new ≡ L.sent link.old) × (W.failures ledger.old ≢ W.failures ledger.new) }
+    ensures faults { IfErr result (λ e. (e ≡ TurnFault.LinkFault) ⊎ (e ≡ TurnFault.LedgerFault)) }
+    ensures waiting { L.waiting link.new ≡ L.waiting link.old }
+{
+    if keep(first, ledger).is_err() || keep(next, ledger).is_err() {
+        node.stop();
+        return Err(TurnFault::LedgerFault);
+    }
+    if send_both(link, &first.frames, &next.frames).is_err() {
+        return Err(TurnFault::LinkFault);
+    }
+    Ok(())
+}
+
+// HasGathered an answer, or fulfils it with those that are gathered.
+fn take<N: Node, L: Link, W: LedgerOut>(
+    node: &mut N,
+    gathered: &mut Out,
+    out: &Out,
     link: &mut L,
     ledger: &mut W,
 ) -> Result<(), TurnFault>
-    ensures ok { OnOk result ((out : Answer) × N.answers node.old (event_of (known line)) (Ok out) node.new
-        × (W.text ledger.new ≡ kept_text out (W.text ledger.old))
-        × (L.sent link.new ≡ grown (L.sent link.old) out.frames.items)
-        × (W.failures ledger.new ≡ W.failures ledger.old) × (L.failures link.new ≡ L.failures link.old)) }
-    ensures err { IfErr result (λ fault. Faulted N.answers N.is_stopped
-        (scene node.old (W.text ledger.old) (L.sent link.old)) (event_of (known line)) fault
-        (scene node.new (W.text ledger.new) (L.sent link.new))) }
-    ensures ends { EndsInStep N.in_step result
-        (devices node.old (W.text ledger.old) (L.failures link.old) (W.failures ledger.old))
-        (devices node.new (W.text ledger.new) (L.failures link.new) (W.failures ledger.new)) }
+    ensures ok { OnOk result ((node.new ≡ node.old) × (gathered.new.cut ≡ gathered.old.cut)
+        × (W.failures ledger.new ≡ W.failures ledger.old) × (L.failures link.new ≡ L.failures link.old)
+        × TakesAnswer gathered.old out.now (W.text ledger.old) (L.sent link.old) gathered.new (W.text ledger.new)
+        (L.sent link.new)) }
+    ensures link { result ≡ Err TurnFault.LinkFault → (node.new ≡ node.old)
+        × (W.text ledger.new ≡ kept_text out.now (kept_text gathered.old (W.text ledger.old)))
+        × IsBegun (L.sent link.old) (gathered.old.frames.items ++ out.now.frames.items) (L.sent link.new)
+        × (L.failures link.old ≢ L.failures link.new) }
+    ensures ledger { result ≡ Err TurnFault.LedgerFault → N.is_stopped node.new
+        × (IsPartlyKept gathered.old (W.text ledger.old) (W.text ledger.new)
+        ⊎ IsPartlyKept out.now (kept_text gathered.old (W.text ledger.old)) (W.text ledger.new))
+        × (L.sent link.new ≡ L.sent link.old) × (W.failures ledger.old ≢ W.failures ledger.new) }
+    ensures faults { IfErr result (λ e. (e ≡ TurnFault.LinkFault) ⊎ (e ≡ TurnFault.LedgerFault)) }
     ensures waiting { L.waiting link.new ≡ L.waiting link.old }
 {
-    let out = node.on(Event::Frame(frame_of(&line)))?;
-    fulfil(node, link, ledger, &out)
+    if join(gathered, out) {
+        return Ok(());
+    }
+    fulfil_both(node, link, ledger, gathered, out)?;
+    gathered.append.clear();
+    gathered.frames.clear();
+    Ok(())
 }
 
-// Hands each line that waits to the node, and fulfils its answers, as far as one that can't be.
+// Hands one line to the node, and gathers its answer. Where it brings none, what is gathered is fulfilled.
+fn gather<N: Node, L: Link, W: LedgerOut>(
+    node: &mut N,
+    line: &Line,
+    gathered: &mut Out,
+    link: &mut L,
+    ledger: &mut W,
+) -> Result<(), TurnFault>
+    ensures ok { OnOk result ((old : Scene N) (events left : List Happening)
+        → HasGathered N.answers old events (event_of (known line.now) ∷ left) (W.text ledger.old) (L.sent link.old)
+        gathered.old node.old
+        → HasGathered N.answers old events left (W.text ledger.new) (L.sent link.new) gathered.new node.new) }
+    ensures err { IfErr result (λ fault. (old : Scene N) (events left : List Happening)
+        → HasGathered N.answers old events (event_of (known line.now) ∷ left) (W.text ledger.old) (L.sent link.old)
+        gathered.old node.old
+        → BrokenTogether N.answers N.is_stopped old events fault left
+        (scene node.new (W.text ledger.new) (L.sent link.new))) }
+    ensures counts { OnOk result ((W.failures ledger.new ≡ W.failures ledger.old)
+        × (L.failures link.new ≡ L.failures link.old)) }
+    ensures step { gathered.old.cut ≡ None → result ≢ Err TurnFault.LedgerFault
+        → IfSome (kept_text gathered.old (W.text ledger.old)) (N.in_step node.old)
+        → IfSome (text_gathered result gathered.new (W.text ledger.new)) (N.in_step node.new) }
+    ensures link { result ≡ Err TurnFault.LinkFault → L.failures link.old ≢ L.failures link.new }
+    ensures ledger { result ≡ Err TurnFault.LedgerFault → W.failures ledger.old ≢ W.failures ledger.new }
+    ensures waiting { L.waiting link.new ≡ L.waiting link.old }
+{
+    match node.on(Event::Frame(frame_of(line))) {
+        Ok(out) => take(node, gathered, &out, link, ledger),
+        Err(fault) => {
+            fulfil(node, link, ledger, gathered)?;
+            Err(TurnFault::Node(fault))
+        }
+    }
+}
+
+// Hands each line that waits to the node, and fulfils its answers together, as far as one that can't be.
 pub(crate) fn hand_all<N: Node, L: Link, W: LedgerOut>(
     node: &mut N,
     lines: &mut Lines,
@@ -65,8 +182,9 @@ pub(crate) fn hand_all<N: Node, L: Link, W: LedgerOut>(
         (devices node.new (W.text ledger.new) (L.failures link.new) (W.failures ledger.new)) }
     ensures waiting { L.waiting link.new ≡ L.waiting link.old }
 {
+    let mut gathered = Out::nothing(lines.alloc());
     'lines: while let Some(line) = lines.next() {
-        hand(node, line, link, ledger)?;
+        gather(node, &line, &mut gathered, link, ledger)?;
     }
-    Ok(())
+    fulfil(node, link, ledger, &gathered)
 }

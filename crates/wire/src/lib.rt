@@ -6,7 +6,8 @@
 //!
 //! A [`Node`] answers events, and does nothing else: each answer says what is to be cut from its ledger,
 //! what to be appended, and which frames to be sent. `begin`, `fulfil`, `hand_piece` and `turn` fulfil answers,
-//! the ledger's part first; `specs/Fulfilled` and `specs/Turned` say what that means.
+//! the ledger's part first, `hand_piece` and `turn` those to all lines of a piece together; `specs/Fulfilled` and
+//! `specs/Turned` say what that means.
 #![tactic(auto)]
 
 mod decoder;

@@ -46,6 +46,11 @@ impl Lines {
         }
     }
 
+    // The memory that it takes lines from.
+    pub(crate) fn alloc(&self) -> Global {
+        self.alloc
+    }
+
     /// Takes the next piece of the stream. Where memory is refused, nothing of it is taken.
     pub fn feed(&mut self, piece: &[u8]) -> Result<(), NoMemory>
         ensures ok { OnOk result (self.new ≡ fed self.old piece.now) }

@@ -1,7 +1,8 @@
 // What a node is handed, what it answers, and what every node promises.
-ghost use Rattle.std.specs.Prelude.{◌≡◌};
+ghost use Rattle.std.specs.Prelude.{◌≡◌, [], None};
 
 use kind_evidence::NoMemory;
+use std::alloc::Global;
 use std::error::Error;
 use std::fmt;
 
@@ -27,6 +28,22 @@ pub struct Out {
     pub frames: Vec<u8>,
     /// What there is to say of the event.
     pub note: Note,
+}
+
+impl Out {
+    // An answer that asks for nothing.
+    pub(crate) fn nothing(alloc: Global) -> Out
+        ensures cut { result.cut ≡ None }
+        ensures append { result.append.items ≡ [] }
+        ensures frames { result.frames.items ≡ [] }
+    {
+        Out {
+            cut: None,
+            append: Vec::new(alloc),
+            frames: Vec::new(alloc),
+            note: Note::Quiet,
+        }
+    }
 }
 
 /// What a node says of an event, for whoever watches it.

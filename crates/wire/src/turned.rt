@@ -18,9 +18,9 @@ pub enum Turn {
 /// Why a turn, or the fulfilling out of an answer, ended before its time. What was appended before stands.
 #[derive(Clone, Copy, Debug, PartialEq, Eq)]
 pub enum TurnFault {
-    /// The link failed. A beginning of the last answer's frames was sent.
+    /// The link failed. A beginning of the last answers' frames was sent.
     LinkFault,
-    /// The ledger failed. No frame of that answer was sent, and the node is stopped.
+    /// The ledger failed. No frame of the last answers was sent, and the node is stopped.
     LedgerFault,
     /// The node didn't answer.
     Node(NodeFault),

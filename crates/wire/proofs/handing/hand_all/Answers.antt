@@ -1,45 +1,58 @@
-use Rattle.std.proofs.Common.{◌∙◌, sym, subst, ap, List}
-use Rattle.std.proofs.lemmas.Result.{err_from_is_err_and}
-use Rattle.wire.specs.Fulfilled.{Handed, scene}
+use Rattle.std.proofs.Common.{◌≡◌, ◌∙◌, refl, sym, subst, ap, List, ℕ, []}
+use Rattle.std.specs.Prelude.{Option, IfErr, IfSome}
+use Rattle.std.proofs.lemmas.Result.{on_ok_weaker, IfErr-weaker, err_from_is_err_and}
 use Rattle.text.specs.Lines.{BoundedLine}
-use Rattle.wire.specs.Lines.{Stream, known}
-use Rattle.wire.specs.Turned.{event_of, events_of}
-use Rattle.wire.proofs.Replies.{handed_more}
+use Rattle.wire.specs.Device.{grown}
+use Rattle.wire.specs.Fulfilled.{Handed, kept_text, scene}
+use Rattle.wire.specs.Lines.{Stream}
+use Rattle.wire.specs.Turned.{IsBroken, events_of}
+use Rattle.wire.specs.inside.Gathering.{HasGathered}
+use Rattle.wire.proofs.Replies.{handed_none}
+use Rattle.wire.proofs.Together.{at_scene, gathered_none, gathered_whole, grown_none, lines_left, uncut_text, unfulfilled}
 use Rattle.wire.proofs.handing.hand_all.Goals as goal
 
-pub lines-preserved : goal.lines-preserved
-lines-preserved g c =
-    let old = scene c.args.node.now (g.W.LedgerOut.text c.args.ledger.now) (g.L.Link.sent c.args.link.now) in
-    let at = scene c.lines.node (g.W.LedgerOut.text c.lines.ledger) (g.L.Link.sent c.lines.link) in
-    let new = scene c.hand.new.node (g.W.LedgerOut.text c.hand.new.ledger) (g.L.Link.sent c.hand.new.link) in
-    let took = c.in-Some.ensures.some in
-    let waits = ap (λ (s : Stream). s.waiting) took in
-    let done = c.in_ok-hand.ensures.ok in
-    let before =
-    subst (λ (w : List BoundedLine). Handed g.N.Node.answers old (events_of c.args.lines.now.waiting) (events_of w) at)
-    waits c.lines.invariant.handed in
+pub lines-init : goal.lines-init
+lines-init g c =
+    let text = g.W.LedgerOut.text c.args.ledger.now in
+    let events = events_of c.args.lines.now.waiting in
+    let nothing = c.nothing-gathered.ensures in
+    let same : kept_text c.nothing-gathered.result text ≡ text = uncut_text c.nothing-gathered.result text nothing.cut ∙ ap (λ (xs : List ℕ). grown text xs) nothing.append ∙ grown_none text in
     record {
-      handed =
-          handed_more g.N.Node.answers old at new (events_of c.args.lines.now.waiting) (events_of c.next.new.self.waiting)
-          (event_of (known c.in-Some.line)) done.0 before done.1 done.2 done.3;
-      rest = sym (ap (λ (s : Stream). s.rest) took) ∙ c.lines.invariant.rest;
-      step = λ h. c.in_ok-hand.ensures.ends.step (λ e. cc) (c.lines.invariant.step h);
-      link_count = done.5 ∙ c.lines.invariant.link_count;
-      ledger_count = done.4 ∙ c.lines.invariant.ledger_count;
-      waiting = c.hand.ensures.waiting ∙ c.lines.invariant.waiting;
+      gathers = gathered_none g.N.Node.answers _ events events text (g.L.Link.sent c.args.link.now) c.nothing-gathered.result c.args.node.now
+          (handed_none g.N.Node.answers _ events) nothing.cut nothing.append nothing.frames;
+      rest = refl;
+      step = λ h. subst (λ (t : Option (List ℕ)). IfSome t (g.N.Node.in_step c.args.node.now)) (sym same) h;
+      link_count = refl;
+      ledger_count = refl;
+      waiting = refl;
     }
 
-pub returns-in_err-hand-clause-err : goal.returns-in_err-hand-clause-err
-returns-in_err-hand-clause-err g c =
-    let p = err_from_is_err_and c.from_residual.result c.from_residual.ensures.1 in
+pub returns-clause-ok : goal.returns-clause-ok
+returns-clause-ok g c =
+    let answers = g.N.Node.answers in
     let old = scene c.args.node.now (g.W.LedgerOut.text c.args.ledger.now) (g.L.Link.sent c.args.link.now) in
-    let at = scene c.lines.node (g.W.LedgerOut.text c.lines.ledger) (g.L.Link.sent c.lines.link) in
-    let took = c.in-Some.ensures.some in
-    let waits = ap (λ (s : Stream). s.waiting) took in
-    let before =
-    subst (λ (w : List BoundedLine). Handed g.N.Node.answers old (events_of c.args.lines.now.waiting) (events_of w) at)
-    waits c.lines.invariant.handed in
-    rw (p.1, p.2) (
-      record { event = event_of (known c.in-Some.line); at = at; before = before; faulted = c.in_err-hand.ensures.err },
-      sym (ap (λ (s : Stream). s.rest) took) ∙ c.lines.invariant.rest,
-    )
+    let events = events_of c.args.lines.now.waiting in
+    let text = g.W.LedgerOut.text c.lines.ledger in
+    let none = c.in_default.ensures.none in
+    let gathers : HasGathered answers old events [] text (g.L.Link.sent c.lines.link) c.lines.gathered c.lines.node =
+    subst (λ (w : List BoundedLine). HasGathered answers old events (events_of w) text (g.L.Link.sent c.lines.link) c.lines.gathered c.lines.node) none.0 c.lines.invariant.gathers in
+    on_ok_weaker c.fulfil.result
+    (λ p. (
+      at_scene answers old events [] _ _ _ _ _ _ p.0 (p.1 ∙ uncut_text c.lines.gathered text gathers.cut) p.2 (gathered_whole answers old events [] text _ c.lines.gathered c.lines.node gathers),
+      none.1 ∙ lines_left c.lines.lines c.args.lines.now none.0 c.lines.invariant.rest,
+    ))
+    c.fulfil.ensures.ok
+
+pub returns-clause-err : goal.returns-clause-err
+returns-clause-err g c =
+    let answers = g.N.Node.answers in
+    let old = scene c.args.node.now (g.W.LedgerOut.text c.args.ledger.now) (g.L.Link.sent c.args.link.now) in
+    let events = events_of c.args.lines.now.waiting in
+    let none = c.in_default.ensures.none in
+    let new = scene c.fulfil.new.node (g.W.LedgerOut.text c.fulfil.new.ledger) (g.L.Link.sent c.fulfil.new.link) in
+    subst (λ (s : Stream). IfErr c.fulfil.result (λ fault. IsBroken answers g.N.Node.is_stopped old c.args.lines.now fault s new)) (sym none.1)
+    (IfErr-weaker c.fulfil.result _ _ (λ fault broken. (broken, c.lines.invariant.rest))
+    (unfulfilled answers g.N.Node.is_stopped old events [] (events_of c.lines.lines.waiting) (g.W.LedgerOut.text c.lines.ledger) (g.L.Link.sent c.lines.link) c.lines.gathered c.lines.node c.lines.node
+    c.lines.invariant.gathers refl new c.fulfil.result c.fulfil.ensures.faults
+    (λ e. let q = c.fulfil.ensures.link e in (q.0, q.1, q.2))
+    (λ e. let q = c.fulfil.ensures.ledger e in (q.0, q.1, q.2))))

@@ -1,16 +1,19 @@
 use Rattle.std.proofs.Common.{◌≡◌, length}
 use Rattle.std.specs.Prelude.{IfSome}
-use Rattle.wire.specs.Fulfilled.{Handed, scene}
+use Rattle.wire.specs.Fulfilled.{kept_text, scene}
 use Rattle.wire.specs.Turned.{events_of}
+use Rattle.wire.specs.inside.Gathering.{HasGathered}
 use Rattle.wire.proofs.handing.hand_all.Given as goal
 
+-- the answers to the lines that were handed over are fulfilled, or gathered
 abbrev pub invariant-lines : goal.invariant-lines
 invariant-lines g l = record {
-  handed :
-      Handed g.N.Node.answers (scene l.fn.node (g.W.LedgerOut.text l.fn.ledger) (g.L.Link.sent l.fn.link)) (events_of l.fn.lines.waiting)
-      (events_of l.lines.waiting) (scene l.node (g.W.LedgerOut.text l.ledger) (g.L.Link.sent l.link));
+  gathers :
+      HasGathered g.N.Node.answers (scene l.fn.node (g.W.LedgerOut.text l.fn.ledger) (g.L.Link.sent l.fn.link)) (events_of l.fn.lines.waiting)
+      (events_of l.lines.waiting) (g.W.LedgerOut.text l.ledger) (g.L.Link.sent l.link) l.gathered l.node;
   rest : l.lines.rest ≡ l.fn.lines.rest;
-  step : IfSome (g.W.LedgerOut.text l.fn.ledger) (g.N.Node.in_step l.fn.node) → IfSome (g.W.LedgerOut.text l.ledger) (g.N.Node.in_step l.node);
+  step : IfSome (g.W.LedgerOut.text l.fn.ledger) (g.N.Node.in_step l.fn.node)
+      → IfSome (kept_text l.gathered (g.W.LedgerOut.text l.ledger)) (g.N.Node.in_step l.node);
   link_count : g.L.Link.failures l.link ≡ g.L.Link.failures l.fn.link;
   ledger_count : g.W.LedgerOut.failures l.ledger ≡ g.W.LedgerOut.failures l.fn.ledger;
   waiting : g.L.Link.waiting l.link ≡ g.L.Link.waiting l.fn.link;

@@ -1,6 +1,6 @@
 -- What devices hold after several calls.
 use Rattle.std.proofs.Common.{◌≡◌, ◌∙◌, sym, refl, ap, inl, inr, ℕ, ◌+◌, ◌-◌, ◌≤◌, List, ◌++◌, take, drop, length, append_assoc, arith, length-drop}
-use Rattle.std.specs.Prelude.{◌⊎◌, Option, Some, None}
+use Rattle.std.specs.Prelude.{Option, Some, None}
 use Rattle.std.proofs.lemmas.Bool.{cases_lt}
 use Rattle.std.proofs.Math.Seq.{take-add, take-append-add, take-append_seam}
 use Rattle.std.proofs.lemmas.List.{take_all, take-append-le}

@@ -1,6 +1,5 @@
 -- Answers that are gathered, and fulfilled together.
-use Rattle.std.proofs.Common.{◌≡◌, ◌∙◌, refl, sym, subst, ap, inl, inr, arith, ℕ, ◌+◌, ◌-◌, ◌≤◌, List, [], ◌∷◌, ◌++◌, length, take, map, append_assoc, append-nil}
-use Rattle.std.specs.List.{flat_map}
+use Rattle.std.proofs.Common.{◌≡◌, ◌∙◌, refl, sym, subst, ap, inl, inr, arith, ℕ, ◌+◌, ◌-◌, List, [], ◌∷◌, ◌++◌, length, take, map, append_assoc, append-nil}
 use Rattle.std.specs.Prelude.{◌⊎◌, Option, Some, None, Result, Ok, Err, IfErr}
 use Rattle.std.proofs.lemmas.List.{take_all, take-append-le, map-append, flat_map_more}
 use Rattle.std.proofs.lemmas.Bool.{cases_lt}
@@ -13,7 +12,7 @@ use Rattle.wire.specs.Happening.{Happening}
 use Rattle.text.specs.Lines.{BoundedLine}
 use Rattle.wire.specs.Lines.{Stream}
 use Rattle.wire.specs.Device.{grown, IsBegun}
-use Rattle.wire.specs.Fulfilled.{Answering, AreKeptSoFar, BrokenTogether, Fulfilled, FaultedTogether, Handed, IsPartlyKept, IsUnanswered, Reply, Scene, cut_to, fulfilled, kept_text, scene, sent_by}
+use Rattle.wire.specs.Fulfilled.{Answering, AreKeptSoFar, BrokenTogether, Fulfilled, Handed, IsPartlyKept, IsUnanswered, Reply, Scene, cut_to, fulfilled, kept_text, scene}
 use Rattle.wire.specs.inside.Gathering.{AreUncut, HasGathered, TakesAnswer, appended_by}
 use Rattle.wire.proofs.Replies.{carried_more, order_more}
 use Rattle.wire.proofs.Devices.{grown_twice}

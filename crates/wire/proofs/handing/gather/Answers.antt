@@ -1,5 +1,5 @@
-use Rattle.std.proofs.Common.{sym, subst, ap, List, ℕ, [], ◌∷◌, Ok, Err}
-use Rattle.std.proofs.lemmas.Result.{on_ok_weaker, IfErr-weaker, err_from_is_err_and}
+use Rattle.std.proofs.Common.{sym, subst, List, ℕ, [], ◌∷◌, Ok, Err}
+use Rattle.std.proofs.lemmas.Result.{on_ok_weaker, err_from_is_err_and}
 use Rattle.wire.specs.Fulfilled.{scene}
 use Rattle.wire.specs.inside.Gathering.{HasGathered}
 use Rattle.wire.specs.Happening.{Came}

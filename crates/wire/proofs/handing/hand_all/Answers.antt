@@ -1,9 +1,9 @@
 use Rattle.std.proofs.Common.{◌≡◌, ◌∙◌, refl, sym, subst, ap, List, ℕ, []}
 use Rattle.std.specs.Prelude.{Option, IfErr, IfSome}
-use Rattle.std.proofs.lemmas.Result.{on_ok_weaker, IfErr-weaker, err_from_is_err_and}
+use Rattle.std.proofs.lemmas.Result.{on_ok_weaker, IfErr-weaker}
 use Rattle.text.specs.Lines.{BoundedLine}
 use Rattle.wire.specs.Device.{grown}
-use Rattle.wire.specs.Fulfilled.{Handed, kept_text, scene}
+use Rattle.wire.specs.Fulfilled.{kept_text, scene}
 use Rattle.wire.specs.Lines.{Stream}
 use Rattle.wire.specs.Turned.{IsBroken, events_of}
 use Rattle.wire.specs.inside.Gathering.{HasGathered}

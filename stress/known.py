@@ -15,9 +15,6 @@ sys.path.insert(0, os.path.join(TOP, "bench"))
 from measured import built, run  # noqa: E402
 from program import PROGRAM  # noqa: E402
 
-WORDS = """The first automaton has a state for each word of what was read last, at most 33 symbols, from which the last 10 are dropped
-where they repeat twice; its edges were closed within 60,000 edges and 12,000 states. Then two states were made one, with what their
-transitions then force, as long as nothing halts: 4,000 tries, first of states whose words end alike."""
 LEARNED = """The half tapes of 2,000 steps of the run, read from far away, are put into a tree for each side. Two nodes are one state
 where the same was ever seen to follow them in the next cells up to the head, with the head's state and what is beyond it. Every
 transition is counted in a count of its own, and the cosets are closed, an item after another; where a transition is missing that the
@@ -28,7 +25,6 @@ these a 1 is pushed on the right and taken off again, so a state of the right au
 pushed it; one count on each side is enough. The cosets were closed by the check's own rules."""
 
 HOW = {
-    "1RB---_0RC1RD_0LD1RC_1LE0RA_1RA0LE": WORDS,
     "0RB1RA_1RC1LD_1LC1RB_0LE0LA_---0LD": BY_HAND,
     "0RB1RA_1RC1LD_1LD1RB_0LE0LA_---0LD": LEARNED + FEWER,
     "1RB0LD_1RC0RA_0RD0RB_1LE---_1LB0LC": LEARNED,
@@ -40,10 +36,9 @@ HOW = {
 
 
 def what(record):
-    """A record in a line: its kind, and how large it is."""
+    """A record of counted automata in a line: its kind, and how large it is."""
     table, kind, first, second = record.split(" ")[:4]
-    size = f"{second} states" if kind == "A" else f"{first} and {second} counts"
-    return f"{table} {kind}, {size}, {len(record):,} bytes"
+    return f"{table} {kind}, {first} and {second} counts, {len(record):,} bytes"
 
 
 def main():

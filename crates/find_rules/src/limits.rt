@@ -12,8 +12,11 @@ pub(crate) const MAX_TRIES: u64 = 7;
 // After how many steps the run is looked at first; each later try goes on to four times as many.
 pub(crate) const FIRST_STEPS: u64 = 500;
 
-// The most cells of all tapes that a run keeps at its records.
-pub(crate) const MAX_KEPT_CELLS: usize = 8_000_000;
+// The most cells of all tapes that a run keeps at its records, and how many for each step that it may take: a tape that grows
+// like a root of the steps needs fewer, one that grows with the steps soon more.
+pub(crate) const MAX_KEPT_CELLS: u64 = 8_000_000;
+
+pub(crate) const CELLS_A_STEP: u64 = 16;
 
 // The most records of one side and state between two members of a family.
 pub(crate) const MAX_STRIDE: usize = 64;

@@ -1,5 +1,5 @@
 // A run from the blank tape, and its records: the steps that go to a new cell.
-use crate::limits::MAX_KEPT_CELLS;
+use crate::limits::{CELLS_A_STEP, MAX_KEPT_CELLS};
 use machine_text::{Dir, State, Sym, Table};
 use std::alloc::{AllocError as NoMemory, Global};
 
@@ -34,6 +34,7 @@ pub(crate) struct RecordedRun {
     left_count: u64,
     right_count: u64,
     kept: Vec<Sym>,
+    room: u64,
     pub records: Vec<TapeRecord>,
 }
 
@@ -49,6 +50,7 @@ impl RecordedRun {
             left_count: 0,
             right_count: 1,
             kept: Vec::new(alloc),
+            room: 0,
             records: Vec::new(alloc),
         }
     }
@@ -73,6 +75,7 @@ impl RecordedRun {
 
     // Runs until so many steps were done; whether they were, and the records' tapes had room.
     pub fn run_to(&mut self, t: &Table, time: u64) -> Result<bool, NoMemory> {
+        self.room = time.saturating_mul(CELLS_A_STEP).min(MAX_KEPT_CELLS);
         for _ in self.time..time {
             if !self.step(t)? {
                 return Ok(false);
@@ -120,7 +123,7 @@ impl RecordedRun {
             Dir::R => self.left.len(),
         };
         let kept = self.kept.len();
-        if behind > MAX_KEPT_CELLS.saturating_sub(kept) {
+        if behind as u64 > self.room.saturating_sub(kept as u64) {
             return Ok(false);
         }
         match side {

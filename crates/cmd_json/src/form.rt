@@ -23,7 +23,11 @@ impl LinesOrJson {
     pub fn of(json: bool) -> LinesOrJson
         ensures { result ≡ form_of json }
     {
-        if json { LinesOrJson::Json } else { LinesOrJson::Lines }
+        if json {
+            LinesOrJson::Json
+        } else {
+            LinesOrJson::Lines
+        }
     }
 }
 

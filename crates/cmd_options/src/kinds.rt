@@ -56,7 +56,7 @@ pub const COUNT: Number = ranged! { name: "count", value: Some("C"), least: 0, m
 /// How often the run is looked at for rules.
 #[rattlefmt::skip]
 pub const RULES: Number = ranged! { name: "rules", value: Some("R"), least: 0, most: 7, default: Some("0"),
-    help: "Tries to find rules with induction, each on a run four times as long; 0 for none" };
+    help: "Tries to find rules with induction; 0 for none" };
 
 /// The options that say how far the certificates of a kind are searched for, in the order in which help has them.
 pub const REACHES: [Number; 6] = [DEPTH, GRAM, FAR, WORDS, COUNT, RULES];

@@ -1,4 +1,3 @@
-// Why a script doesn't go on.
 use std::alloc::{AllocError as NoMemory, AllocFailed};
 
 // Why a script doesn't go on.

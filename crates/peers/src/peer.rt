@@ -51,7 +51,8 @@ impl Peer {
     }
 
     /// Takes a piece that came from it: its lines are handed to the node in order, and the answers are fulfilled
-    /// together: the ledger's part of all first, and then their frames wait to be sent to this peer. `LinkFault` where memory for them was refused.
+    /// together: the ledger's part of all first, and then their frames wait to be sent to this peer. `LinkFault` where
+    /// memory for them was refused.
     pub fn take<N: Node, W: LedgerOut>(
         &mut self,
         piece: &[u8],

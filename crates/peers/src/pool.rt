@@ -124,10 +124,10 @@ impl<N: Node, W: LedgerOut> Pool<N, W> {
 
     /// Takes a piece of what comes from the coordinator. Each line that then is whole goes, in order, to the core to
     /// which it belongs: `GRANT`, `STOP` and `LATER` alone to the one whose `ASK` is the oldest that is unanswered, which
-    /// asks again later where it doesn't take it; `ACK` and `LATER` with a table to one after another, as far as one that has the record. Any other line is
-    /// dropped, and so is the answer to an `ASK` where none is unanswered. Each answer is fulfilled before anything
-    /// else happens, as by `work`. After a fault at a line those behind it are left, what was handed over before
-    /// stands, and the connection has to be made anew.
+    /// asks again later where it doesn't take it; `ACK` and `LATER` with a table to one after another, as far as one
+    /// that has the record. Any other line is dropped, and so is the answer to an `ASK` where none is unanswered. Each
+    /// answer is fulfilled before anything else happens, as by `work`. After a fault at a line those behind it are left,
+    /// what was handed over before stands, and the connection has to be made anew.
     pub fn hear<L: Link>(&mut self, piece: &[u8], link: &mut L) -> Result<(), TurnFault>
         ensures hears { Hears N.answers N.is_stopped W.text self.old (L.sent link.old) piece.now result
             self.new (L.sent link.new) }

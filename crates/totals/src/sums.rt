@@ -100,7 +100,7 @@ impl Sums {
         self.holdouts.reserve(more.holdouts.len())
     }
 
-    // TakesLast in those of a part, for whose tables there is room.
+    // Takes in those of a part, for whose tables there is room.
     fn take(&mut self, more: Sums)
         requires nodes { 1 ≤ self.old.tally.nodes }
         requires open_count { 1 ≤ self.old.tally.open_count }

@@ -12,7 +12,7 @@ use cert::Judged;
 use kind_evidence::NoMemory;
 use machine_text::Table;
 
-// TakesLast the last of the tables ahead, which is decided: its children come in its place. After an error nothing has changed.
+// Takes the last of the tables ahead, which is decided: its children come in its place. After an error nothing has changed.
 pub(crate) fn take(
     ahead: &mut Vec<Table>,
     sums: &mut Sums,

@@ -97,7 +97,7 @@ fn fulfil_both<N: Node, L: Link, W: LedgerOut>(
     Ok(())
 }
 
-// HasGathered an answer, or fulfils it with those that are gathered.
+// Gathers an answer, or fulfils it with those that are gathered.
 fn take<N: Node, L: Link, W: LedgerOut>(
     node: &mut N,
     gathered: &mut Out,

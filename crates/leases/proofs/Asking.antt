@@ -7,9 +7,9 @@ use Rattle.ledger.specs.Contents.{Contents, IsOpenOn}
 use Rattle.leases.specs.Asks.{IsFree, IsFirstFree, Grants}
 use Rattle.leases.specs.Leases.{Lease, AreLeases, is_live, came_under, while_live}
 use Rattle.leases.specs.inside.Children.{ComesUnder}
-use Rattle.leases.specs.inside.Deadlines.{AreNotAhead}
+use Rattle.leases.specs.inside.Stored.{AreNotAhead}
 use Rattle.leases.specs.inside.Stored.{StoredLease, as_lease, as_leases, is_numbered, without, AreAmongFree, AreStored, IsOwn}
-use Rattle.leases.proofs.DeadlineLaws.{granted_not_ahead, without_not_ahead}
+use Rattle.leases.proofs.Moments.{granted_not_ahead, without_not_ahead}
 use Rattle.leases.proofs.Ending.{ended_holds, filter_held}
 use Rattle.leases.proofs.Granting.{given_all, granted_leases, granted_stored, grants}
 use Rattle.leases.proofs.LiveLaws.{live_without, of_others}

@@ -16,7 +16,6 @@ use Rattle.law_tree.proofs.TreeLaws.{child_holes}
 use Rattle.law_tree.proofs.ChildCount.{children_bound}
 use Rattle.cert.specs.Claim.{Recorded}
 use Rattle.cert.specs.Scored.{with_score}
-use Rattle.cert.proofs.Scores.{score_certified}
 use Rattle.ledger.specs.Contents.{Contents, IsBoard, IsOpenOn}
 use Rattle.ledger.specs.Records.{mark_in, mark_of, mark_by}
 use Rattle.ledger.specs.Held.{IsFit, Resolves, resolved}

@@ -1,23 +1,15 @@
 -- The leases that have ended by a moment, and leases that end together.
 use Rattle.std.proofs.Common.{◌≡◌, ℕ, ◌+◌, ◌<◌, ◌≤◌, ◌||◌, Bool, true, false, cond, not, nat_eq, refl, sym, ◌∙◌, ap, subst, inl, inr, List, [], ◌∷◌, map, filter, length, get_or, zero, suc, drop, Contains, Some, below_more, arith}
-use Rattle.std.specs.Ordering.{nat_cmp}
-use Rattle.std.specs.BTreeMap.{BTreeMap, IsOrdered, get}
 use Rattle.std.proofs.lemmas.List.Elements.{All-contains, filter_passes, at_read}
 use Rattle.std.proofs.lemmas.List.{drop_more}
-use Rattle.std.proofs.lemmas.Option.{same_Some}
 use Rattle.std.proofs.lemmas.Bool.{eqb-true, eq-eqb, leb-true}
 use Rattle.ledger.proofs.Apart.{first_member, later_member, first_or_later}
 use Rattle.machine_text.specs.Packed.{Packed}
 use Rattle.leases.specs.Leases.{Lease, SomeEnds, is_live}
-use Rattle.leases.specs.inside.Stored.{StoredLease, stored_lease, as_lease, has_ended, without, are_numbered, without_each, AreDue, AreAmongFree}
-use Rattle.leases.specs.declared.held_leases.HeldLease.{HeldLease}
+use Rattle.leases.specs.inside.Stored.{StoredLease, as_lease, due_of, has_ended, without, are_numbered, without_each, AreDue, AreAmongFree, RiseByNumber}
 use Rattle.leases.proofs.FreeLaws.{mapped, unmapped}
-use Rattle.leases.proofs.LiveLaws.{member_at}
+use Rattle.leases.proofs.LiveLaws.{only_one}
 use Rattle.leases.proofs.Members.{filter_member, found_live, in_filter, or_later}
-
--- the numbers of the leases that have ended
-abbrev pub due_of : ℕ → List StoredLease → List ℕ
-due_of moment ls = map (λ l. l.number) (filter (λ l. has_ended moment (as_lease l)) ls)
 
 pub due_first : (moment : ℕ) (l : StoredLease) (ls : List StoredLease) → has_ended moment (as_lease l) ≡ true → due_of moment (l ∷ ls) ≡ l.number ∷ due_of moment ls
 due_first moment l ls ends = ap (λ b. map (λ (l : StoredLease). l.number) (cond b (l ∷ filter (λ (l : StoredLease). has_ended moment (as_lease l)) ls) (filter (λ (l : StoredLease). has_ended moment (as_lease l)) ls))) ends
@@ -28,9 +20,8 @@ due_passed moment l ls stays = ap (λ b. map (λ (l : StoredLease). l.number) (c
 passes : {X : Type 0} (p : X → Bool) (xs : List X) (x : X) → Contains (filter p xs) x → p x ≡ true
 passes p xs x h = All-contains (λ x. p x ≡ true) (filter p xs) x (filter_passes p xs) h
 
-pub are_due : (moment : ℕ) (m : BTreeMap ℕ HeldLease) → IsOrdered nat_cmp m → AreDue moment (map as_lease (map stored_lease m.entries)) (due_of moment (map stored_lease m.entries))
-are_due moment m ordered =
-    let ls = map stored_lease m.entries in
+pub are_due : (moment : ℕ) (ls : List StoredLease) → RiseByNumber ls → AreDue moment (map as_lease ls) (due_of moment ls)
+are_due moment ls rise =
     let ends : StoredLease → Bool = λ l. has_ended moment (as_lease l) in
     record {
       all = λ x member late.
@@ -41,11 +32,8 @@ are_due moment m ordered =
           let l = unmapped as_lease ls x member in
           let k = unmapped (λ (l : StoredLease). l.number) (filter ends ls) x.number there in
           let late = passes ends ls k.0 k.1 in
-          let first = member_at m ordered l.0 l.1 in
-          let second = member_at m ordered k.0 (filter_member ends ls k.0 k.1) in
           let number : k.0.number ≡ l.0.number = k.2 ∙ sym (ap (λ (x : Lease). x.number) l.2) in
-          let value : second.0 ≡ first.0 = same_Some second.0 first.0 (sym second.1 ∙ (ap (get nat_cmp m) number ∙ first.1)) in
-          let same : k.0 ≡ l.0 = sym second.2 ∙ (ap (λ n. stored_lease (n, second.0)) number ∙ (ap (λ v. stored_lease (l.0.number, v)) value ∙ first.2)) in
+          let same : k.0 ≡ l.0 = only_one ls k.0 l.0 rise (filter_member ends ls k.0 k.1) l.1 number in
           ap (has_ended moment) (sym l.2) ∙ (ap ends (sym same) ∙ late);
     }
 

@@ -8,4 +8,5 @@ pub mod Granting
 pub mod Asking
 pub mod ChildLaws
 pub mod Offering
-pub mod DeadlineLaws
+pub mod Moments
+pub mod Listing

@@ -1,78 +1,96 @@
--- Leases under their numbers, in a map: which are found, and what goes, comes and changes.
-use Rattle.std.proofs.Common.{◌≡◌, ℕ, ◌+◌, ◌-◌, ◌<◌, ◌≤◌, if◌then◌else◌, IfSome, OnOk, Result, Ok, Err, ◌||◌, ◌&&◌, suc, inl, inr, Bool, true, false, cond, not, nat_eq, refl, sym, ◌∙◌, ap, subst, List, [], ◌∷◌, ◌++◌, map, filter, length, get_or, All, Option, Some, None, Contains, arith}
-use Rattle.std.specs.Prelude.{is_some}
-use Rattle.std.specs.Ordering.{nat_cmp, is_eq, match_ordering}
-use Rattle.std.specs.declared.cmp.Ordering.TheVariants.{Less, Equal, Greater}
-use Rattle.std.specs.Cmp.{nat_cmp_is}
-use Rattle.std.specs.BTreeMap.{BTreeMap, IsOrdered, is_at, insert_entry, get}
-use Rattle.std.specs.List.{AllByRecursion}
-use Rattle.std.specs.List.Sorted.{IsStrictlySortedBy}
-use Rattle.std.specs.Map.{lookup, keys_of, remove_entry, set_value}
-use Rattle.std.proofs.Math.ListN.{set}
+-- Leases in the order of their numbers: which are found, and what goes, comes and changes.
+use Rattle.std.proofs.Common.{◌≡◌, ℕ, ◌+◌, ◌-◌, ◌<◌, ◌≤◌, ◌||◌, ◌&&◌, ◌⊎◌, IfSome, OnOk, Result, Ok, Err, zero, suc, inl, inr, Bool, true, false, cond, not, nat_eq, refl, sym, ◌∙◌, ap, subst, List, [], ◌∷◌, ◌++◌, map, filter, length, get_or, All, Option, Some, None, Contains, arith}
+use Rattle.std.specs.List.{remove}
 use Rattle.std.proofs.lemmas.Bool.{eqb-true, eq-eqb, cases_lt}
 use Rattle.std.proofs.lemmas.Bool.Decides.{eqb_tells}
-use Rattle.std.proofs.lemmas.Cmp.{nat_cmp_total}
-use Rattle.std.proofs.lemmas.List.Elements.{All-head, All-tail, All-contains}
-use Rattle.std.proofs.lemmas.Map.Keys.{sorted_head, sorted_tail}
-use Rattle.std.proofs.lemmas.Map.Views.{All-found, Contains-from_lookup}
+use Rattle.std.proofs.lemmas.List.{get_or-map, get_or_default, length-map}
+use Rattle.std.proofs.lemmas.List.Elements.{All-contains, Contains-get_or}
+use Rattle.std.proofs.lemmas.List.Edits.{length-remove}
+use Rattle.std.proofs.lemmas.List.Kept.{AllPairs-filter}
+use Rattle.std.proofs.lemmas.List.Quantifiers.{all_pairs_push}
 use Rattle.std.proofs.lemmas.Option.{same_Some}
-use Rattle.ledger.proofs.Apart.{first_member, later_member}
+use Rattle.ledger.proofs.Apart.{first_member, first_or_later, later_member}
+use Rattle.machine_text.specs.Packed.{Packed}
 use Rattle.leases.specs.Limits.{child_limit}
 use Rattle.leases.specs.Leases.{is_live}
-use Rattle.leases.specs.inside.Stored.{StoredLease, stored_lease, as_lease, is_numbered, without, AreOfWorkers, IsOwn, AreAmongFree}
-use Rattle.machine_text.specs.Packed.{Packed}
-use Rattle.std.proofs.lemmas.List.{length-map}
-use Rattle.leases.specs.declared.held_leases.HeldLease.{HeldLease}
+use Rattle.leases.specs.inside.Stored.{StoredLease, as_lease, is_numbered, without, AreAmongFree, AreOfWorkers, HasLease, IsOwn, RiseByNumber, StandsAt}
 use Rattle.leases.specs.inside.Children.{HasRoomForChildren}
-use Rattle.leases.proofs.Members.{found_live}
+use Rattle.leases.proofs.Members.{filter_member, found_live, in_filter, member_lives}
 use Rattle.leases.proofs.FreeLaws.{mapped, unmapped}
 
--- how the map looks for a number
-pub at_number : (n k : ℕ) → is_eq (nat_cmp n k) ≡ nat_eq k n
-at_number n k =
-    elim (eqb_tells k n) [
-      | inl same ↦ ap is_eq (sym (nat_cmp_is n k Equal (sym same.1))) ∙ sym (eq-eqb k n same.1)
-      | inr differ ↦ elim (cases_lt n k) [
-        | inl less ↦ ap is_eq (sym (nat_cmp_is n k Less less)) ∙ sym differ.0
-        | inr most ↦ let apart = differ.1 in ap is_eq (sym (nat_cmp_is n k Greater (omega arith))) ∙ sym differ.0
-      ]
-    ]
-
-pub lives_is : (n : ℕ) (es : List (ℕ × HeldLease)) → is_some (lookup (is_at (nat_cmp n)) es) ≡ is_live (map as_lease (map stored_lease es)) n
-lives_is n [] = refl
-lives_is n (e ∷ es) =
-    elim (nat_eq e.0 n) as (λ v. is_eq (nat_cmp n e.0) ≡ v → is_some (cond (is_eq (nat_cmp n e.0)) (Some e.1) (lookup (is_at (nat_cmp n)) es)) ≡ (v || is_live (map as_lease (map stored_lease es)) n)) [
-      | true ↦ λ test. ap (λ v. is_some (cond v (Some e.1) (lookup (is_at (nat_cmp n)) es))) test
-      | false ↦ λ test. ap (λ v. is_some (cond v (Some e.1) (lookup (is_at (nat_cmp n)) es))) test ∙ lives_is n es
-    ] (at_number n e.0)
-
--- a lease that is kept is found under its number
-pub member_at : (m : BTreeMap ℕ HeldLease) → IsOrdered nat_cmp m → (l : StoredLease) → Contains (map stored_lease m.entries) l → (v : HeldLease) × (get nat_cmp m l.number ≡ Some v) × (stored_lease (l.number, v) ≡ l)
-member_at m ordered l member =
-    let e = unmapped stored_lease m.entries l member in
-    let number : e.0.0 ≡ l.number = ap (λ (l : StoredLease). l.number) e.2 in
-    let found : get nat_cmp m e.0.0 ≡ Some e.0.1 = All-contains (λ (e : ℕ × HeldLease). get nat_cmp m e.0 ≡ Some e.1) m.entries e.0 (All-found nat_cmp_total m ordered) e.1 in
-    (e.0.1, subst (λ n. get nat_cmp m n ≡ Some e.0.1) number found, ap (λ n. stored_lease (n, e.0.1)) (sym number) ∙ e.2)
+nobody : StoredLease
+nobody = record { number = 0; id = 0; renewed = 0; tables = []; room = 0 }
 
 pub without_none : (ls : List StoredLease) → without None ls ≡ ls
 without_none [] = refl
 without_none (l ∷ ls) = ap (λ xs. l ∷ xs) (without_none ls)
 
-none_left : (n : ℕ) (es : List (ℕ × HeldLease)) → AllByRecursion (λ y. nat_cmp n y ≡ Less) (keys_of es) → without (Some n) (map stored_lease es) ≡ map stored_lease es
-none_left n [] above = refl
-none_left n (e ∷ es) above =
-    let other : nat_eq e.0 n ≡ false = sym (at_number n e.0) ∙ ap is_eq above.0 in
-    ap (λ v. cond (not v) (stored_lease e ∷ without (Some n) (map stored_lease es)) (without (Some n) (map stored_lease es))) other ∙ ap (λ xs. stored_lease e ∷ xs) (none_left n es above.1)
+-- a number under which none stands
+none_left : (n : ℕ) (ls : List StoredLease) → ((l : StoredLease) → Contains ls l → l.number ≡ n → ⊥) → without (Some n) ls ≡ ls
+none_left n [] none = refl
+none_left n (l ∷ ls) none =
+    let other : nat_eq l.number n ≡ false = elim (eqb_tells l.number n) [ inl same ↦ absurd (none l (first_member l l ls refl) same.1) | inr differ ↦ differ.0 ] in
+    ap (λ b. cond (not b) (l ∷ without (Some n) ls) (without (Some n) ls)) other ∙ ap (λ xs. l ∷ xs) (none_left n ls (λ x h. none x (later_member l ls x h)))
 
-pub removed_is : (n : ℕ) (es : List (ℕ × HeldLease)) → IsStrictlySortedBy nat_cmp (keys_of es) → map stored_lease (remove_entry (is_at (nat_cmp n)) es) ≡ without (Some n) (map stored_lease es)
-removed_is n [] sorted = refl
-removed_is n (e ∷ es) sorted =
-    let rest = without (Some n) (map stored_lease es) in
-    ap (λ v. map stored_lease (cond v es (e ∷ remove_entry (is_at (nat_cmp n)) es))) (at_number n e.0)
-    ∙ elim (nat_eq e.0 n) as (λ v. nat_eq e.0 n ≡ v → map stored_lease (cond v es (e ∷ remove_entry (is_at (nat_cmp n)) es)) ≡ cond (not v) (stored_lease e ∷ rest) rest) [
-      | true ↦ λ same. sym (none_left n es (subst (λ k. AllByRecursion (λ y. nat_cmp k y ≡ Less) (keys_of es)) (eqb-true e.0 n same) (sorted_head nat_cmp e.0 (keys_of es) sorted)))
-      | false ↦ λ other. ap (λ xs. stored_lease e ∷ xs) (removed_is n es (sorted_tail nat_cmp e.0 (keys_of es) sorted))
-    ] refl
+pub none_live : (n : ℕ) (ls : List StoredLease) → is_live (map as_lease ls) n ≡ false → (l : StoredLease) → Contains ls l → l.number ≡ n → ⊥
+none_live n ls dead l member number = let lives = subst (λ k. is_live (map as_lease ls) k ≡ true) number (member_lives ls l member) in cc
+
+pub dead : (n : ℕ) (ls : List StoredLease) → ((l : StoredLease) → Contains ls l → l.number ≡ n → ⊥) → is_live (map as_lease ls) n ≡ false
+dead n ls none = elim (is_live (map as_lease ls) n) as (λ b. is_live (map as_lease ls) n ≡ b → b ≡ false) [
+  | true ↦ λ e. let l = found_live ls n e in absurd (none l.0 l.1 l.2)
+  | false ↦ λ e. refl
+] refl
+
+-- a number stands once
+pub only_one : (ls : List StoredLease) (a b : StoredLease) → RiseByNumber ls → Contains ls a → Contains ls b → a.number ≡ b.number → a ≡ b
+only_one ls a b rise (i, i_below, here) (j, j_below, there) same = elim (cases_lt i j) [
+  | inl less ↦
+      let rising = rise i j a less j_below in
+      let first : (get_or ls i a).number ≡ a.number = ap (λ (l : StoredLease). l.number) here in
+      let second : (get_or ls j a).number ≡ b.number = ap (λ (l : StoredLease). l.number) (get_or_default ls j a b j_below ∙ there) in
+      absurd (omega (arith, rising, first, second, same))
+  | inr most ↦ elim (cases_lt j i) [
+    | inl less ↦
+        let rising = rise j i a less i_below in
+        let first : (get_or ls i a).number ≡ a.number = ap (λ (l : StoredLease). l.number) here in
+        let second : (get_or ls j a).number ≡ b.number = ap (λ (l : StoredLease). l.number) (get_or_default ls j a b j_below ∙ there) in
+        absurd (omega (arith, rising, first, second, same))
+    | inr least ↦
+        let place : i ≡ j = omega (arith, most, least) in
+        sym here ∙ (ap (λ k. get_or ls k a) place ∙ (get_or_default ls j a b j_below ∙ there))
+  ]
+]
+
+-- what stands at a place
+pub stands_there : (n : ℕ) (ls : List StoredLease) (i : ℕ) (d : StoredLease) → StandsAt n ls i → Contains ls (get_or ls i d)
+stands_there n ls i d at = Contains-get_or ls i d at.0
+
+pub stands_lives : (n : ℕ) (ls : List StoredLease) (i : ℕ) → StandsAt n ls i → is_live (map as_lease ls) n ≡ true
+stands_lives n ls i at = subst (λ k. is_live (map as_lease ls) k ≡ true) (at.1 nobody) (member_lives ls (get_or ls i nobody) (stands_there n ls i nobody at))
+
+-- the lease at the place of a number is without it the rest
+pub removed_is : (n : ℕ) (ls : List StoredLease) (i : ℕ) → RiseByNumber ls → StandsAt n ls i → remove ls i ≡ without (Some n) ls
+removed_is n [] i rise at = absurd (let below = at.0 in omega (arith, below))
+removed_is n (x ∷ xs) zero rise at =
+    let here : x.number ≡ n = at.1 x in
+    let above : (l : StoredLease) → Contains xs l → l.number ≡ n → ⊥ = λ l h same.
+    let rising = rise 0 (suc h.0) l (omega arith) (omega (arith, h.1)) in
+    let is : (get_or xs h.0 l).number ≡ l.number = ap (λ (l : StoredLease). l.number) h.2 in
+    omega (arith, rising, is, same, here) in
+    sym (ap (λ b. cond (not b) (x ∷ without (Some n) xs) (without (Some n) xs)) (eq-eqb x.number n here) ∙ none_left n xs above)
+removed_is n (x ∷ xs) (suc k) rise at =
+    let below : k < length xs = (let within = at.0 in omega (arith, within)) in
+    let there : (get_or xs k x).number ≡ n = at.1 x in
+    let rising = rise 0 (suc k) x (omega arith) (omega (arith, below)) in
+    let other : nat_eq x.number n ≡ false = elim (eqb_tells x.number n) [ inl same ↦ let e = same.1 in absurd (omega (arith, rising, there, e)) | inr differ ↦ differ.0 ] in
+    ap (λ ys. x ∷ ys) (removed_is n xs k (λ i j d less within. rise (suc i) (suc j) d (omega arith) (omega arith)) (below, λ d. at.1 d))
+    ∙ sym (ap (λ b. cond (not b) (x ∷ without (Some n) xs) (without (Some n) xs)) other)
+
+pub length_found : (n : ℕ) (ls : List StoredLease) (i : ℕ) → RiseByNumber ls → StandsAt n ls i → length (without (Some n) ls) + 1 ≡ length ls
+length_found n ls i rise at = ap (λ (xs : List StoredLease). length xs + 1) (sym (removed_is n ls i rise at)) ∙ length-remove ls i at.0
+
+pub missing : (n : ℕ) (ls : List StoredLease) → is_live (map as_lease ls) n ≡ false → without (Some n) ls ≡ ls
+missing n ls none = none_left n ls (none_live n ls none)
 
 pub and_false : (a : Bool) → (a && false) ≡ false
 and_false true = refl
@@ -97,14 +115,6 @@ live_without which (l ∷ ls) n =
       ] refl
     ] refl
 
--- a lease with the greatest number comes last
-pub added_last : (n : ℕ) (v : HeldLease) (es : List (ℕ × HeldLease)) → All (λ (l : StoredLease). l.number < n) (map stored_lease es) → insert_entry nat_cmp es n v ≡ es ++ ((n, v) ∷ [])
-added_last n v [] below = refl
-added_last n v (e ∷ es) below =
-    let less : e.0 < n = All-head (λ (l : StoredLease). l.number < n) (stored_lease e) (map stored_lease es) below in
-    ap (λ o. match_ordering o ((n, v) ∷ e ∷ es) ((e.0, v) ∷ es) (e ∷ insert_entry nat_cmp es n v)) (sym (nat_cmp_is n e.0 Greater less))
-    ∙ ap (λ xs. e ∷ xs) (added_last n v es (All-tail (λ (l : StoredLease). l.number < n) (stored_lease e) (map stored_lease es) below))
-
 pub without_last : (which : Option ℕ) (ls : List StoredLease) (l : StoredLease) → is_numbered which l.number ≡ false → without which (ls ++ (l ∷ [])) ≡ without which ls ++ (l ∷ [])
 without_last which [] l other = ap (λ v. cond (not v) (l ∷ []) []) other
 without_last which (x ∷ xs) l other =
@@ -113,114 +123,99 @@ without_last which (x ∷ xs) l other =
       | false ↦ ap (λ ys. x ∷ ys) (without_last which xs l other)
     ]
 
--- a lease that is written to, by its place
-pub set_place : (n : ℕ) (v w : HeldLease) (es : List (ℕ × HeldLease)) → lookup (is_at (nat_cmp n)) es ≡ Some v
-    → (at : ℕ) × (at < length (map stored_lease es)) × (get_or (map stored_lease es) at (stored_lease (n, w)) ≡ stored_lease (n, v)) × (map stored_lease (set_value (is_at (nat_cmp n)) es w) ≡ set (map stored_lease es) at (stored_lease (n, w)))
-set_place n v w [] found = absurd (cc)
-set_place n v w (e ∷ es) found =
-    elim (nat_eq e.0 n) as (λ b. nat_eq e.0 n ≡ b → cond b (Some e.1) (lookup (is_at (nat_cmp n)) es) ≡ Some v
-    → (at : ℕ) × (at < length (map stored_lease (e ∷ es))) × (get_or (map stored_lease (e ∷ es)) at (stored_lease (n, w)) ≡ stored_lease (n, v)) × (map stored_lease (cond (is_eq (nat_cmp n e.0)) ((e.0, w) ∷ es) (e ∷ set_value (is_at (nat_cmp n)) es w)) ≡ set (map stored_lease (e ∷ es)) at (stored_lease (n, w)))) [
-      | true ↦ λ same here.
-          let number = eqb-true e.0 n same in (
-            0,
-            omega arith,
-            ap (λ k. stored_lease (k, e.1)) number ∙ ap (λ x. stored_lease (n, x)) (same_Some e.1 v here),
-            ap (λ b. map stored_lease (cond b ((e.0, w) ∷ es) (e ∷ set_value (is_at (nat_cmp n)) es w))) (at_number n e.0 ∙ same) ∙ ap (λ k. stored_lease (k, w) ∷ map stored_lease es) number,
-          )
-      | false ↦ λ other there.
-          let later = set_place n v w es there in (
-            suc later.0,
-            omega (arith, later.1),
-            later.2,
-            ap (λ b. map stored_lease (cond b ((e.0, w) ∷ es) (e ∷ set_value (is_at (nat_cmp n)) es w))) (at_number n e.0 ∙ other) ∙ ap (λ xs. stored_lease e ∷ xs) later.3,
-          )
-    ] refl (sym (ap (λ b. cond b (Some e.1) (lookup (is_at (nat_cmp n)) es)) (at_number n e.0)) ∙ found)
-
 -- the number that it is
 pub own_number : (own : Option ℕ) (n : ℕ) → is_numbered own n ≡ true → own ≡ Some n
 own_number None n e = absurd (cc)
 own_number (Some m) n e = ap Some (sym (eqb-true n m e))
 
+pub still_rise : (which : Option ℕ) (ls : List StoredLease) → RiseByNumber ls → RiseByNumber (without which ls)
+still_rise which ls rise = AllPairs-filter (λ (a b : StoredLease). a.number < b.number) (λ l. not (is_numbered which l.number)) ls rise
+
+pub rise_last : (ls : List StoredLease) (l : StoredLease) → All (λ (x : StoredLease). x.number < l.number) ls → RiseByNumber ls → RiseByNumber (ls ++ (l ∷ []))
+rise_last ls l below rise = all_pairs_push (λ (a b : StoredLease). a.number < b.number) ls l rise (λ k d less. below k d less)
+
+pub member_append : (xs : List StoredLease) (l x : StoredLease) → Contains (xs ++ (l ∷ [])) x → Contains xs x ⊎ (x ≡ l)
+member_append [] l x h = elim (first_or_later l [] x h) [ inl same ↦ inr (sym same) | inr later ↦ absurd (omega (arith, later.1)) ]
+member_append (y ∷ ys) l x h = elim (first_or_later y (ys ++ (l ∷ [])) x h) [
+  | inl same ↦ inl (first_member y x ys same)
+  | inr later ↦ elim (member_append ys l x later) [ inl before ↦ inl (later_member y ys x before) | inr last ↦ inr last ]
+]
+
 -- a lease ended: its worker has none
-pub workers_removed : (numbers next : ℕ → Option ℕ) (at after : ℕ → Option HeldLease) (n : ℕ) (l : HeldLease) → AreOfWorkers numbers at → at n ≡ Some l
-    → ((q : ℕ) → after q ≡ cond (is_eq (nat_cmp n q)) None (at q)) → ((q : ℕ) → next q ≡ cond (nat_eq l.id q) None (numbers q)) → AreOfWorkers next after
-workers_removed numbers next at after n l were here gone freed id k = (
+pub workers_removed : (numbers next : ℕ → Option ℕ) (ls : List StoredLease) (n : ℕ) (l : StoredLease) → RiseByNumber ls → AreOfWorkers numbers ls → Contains ls l → l.number ≡ n
+    → ((q : ℕ) → next q ≡ cond (nat_eq l.id q) None (numbers q)) → AreOfWorkers next (without (Some n) ls)
+workers_removed numbers next ls n l rise were member number freed id k = (
   λ h. elim (eqb_tells l.id id) [
     | inl same ↦ let none = freed id ∙ ap (λ v. cond v None (numbers id)) same.0 in absurd (cc)
     | inr differ ↦
-        let found = (were id k).0 (sym (freed id ∙ ap (λ v. cond v None (numbers id)) differ.0) ∙ h) in
-        elim (eqb_tells k n) [
-          | inl this ↦
-              let one : l ≡ found.0 = same_Some l found.0 (sym here ∙ (ap at (sym this.1) ∙ found.1)) in
-              absurd (differ.1 (ap (λ (l : HeldLease). l.id) one ∙ found.2))
-          | inr other ↦ (found.0, gone k ∙ (ap (λ v. cond v None (at k)) (at_number n k ∙ other.0) ∙ found.1), found.2)
-        ]
+        let (x, there, of, by) = (were id k).0 (sym (freed id ∙ ap (λ v. cond v None (numbers id)) differ.0) ∙ h) in
+        let other : nat_eq x.number n ≡ false = elim (eqb_tells x.number n) [
+          | inl this ↦ absurd (differ.1 (ap (λ (l : StoredLease). l.id) (only_one ls l x rise member there (number ∙ sym this.1)) ∙ by))
+          | inr apart ↦ apart.0
+        ] in
+        (x, in_filter (λ l. not (is_numbered (Some n) l.number)) ls x there (ap not other), of, by)
   ],
-  λ found. elim (eqb_tells k n) [
-    | inl this ↦ let none = gone k ∙ ap (λ v. cond v None (at k)) (at_number n k ∙ this.0) in let there = found.1 in absurd (cc)
-    | inr other ↦
-        let was : at k ≡ Some found.0 = sym (gone k ∙ ap (λ v. cond v None (at k)) (at_number n k ∙ other.0)) ∙ found.1 in
-        let before = (were id k).1 (found.0, was, found.2) in
-        elim (eqb_tells l.id id) [
-          | inl same ↦ absurd (other.1 (same_Some k n (sym before ∙ (were id n).1 (l, here, same.1))))
-          | inr differ ↦ freed id ∙ (ap (λ v. cond v None (numbers id)) differ.0 ∙ before)
-        ]
-  ],
-)
-
--- a lease was written to, and stays its worker's
-pub workers_same : (numbers : ℕ → Option ℕ) (at after : ℕ → Option HeldLease) (n : ℕ) (v w : HeldLease) → AreOfWorkers numbers at → at n ≡ Some v → w.id ≡ v.id
-    → ((q : ℕ) → after q ≡ cond (is_eq (nat_cmp n q)) (Some w) (at q)) → AreOfWorkers numbers after
-workers_same numbers at after n v w were here same_id written id k = (
-  λ h.
-      let found = (were id k).0 h in
-      elim (eqb_tells k n) [
-        | inl this ↦
-            let one : v ≡ found.0 = same_Some v found.0 (sym here ∙ (ap at (sym this.1) ∙ found.1)) in
-            (w, written k ∙ ap (λ b. cond b (Some w) (at k)) (at_number n k ∙ this.0), same_id ∙ (ap (λ (l : HeldLease). l.id) one ∙ found.2))
-        | inr other ↦ (found.0, written k ∙ (ap (λ b. cond b (Some w) (at k)) (at_number n k ∙ other.0) ∙ found.1), found.2)
+  λ found.
+      let (x, there, of, by) = found in
+      let was = filter_member (λ l. not (is_numbered (Some n) l.number)) ls x there in
+      let before = (were id k).1 (x, was, of, by) in
+      elim (eqb_tells l.id id) [
+        | inl same ↦
+            let this : k ≡ n = same_Some k n (sym before ∙ (were id n).1 (l, member, number, same.1)) in
+            let live = live_without (Some n) ls n ∙ (ap (λ b. is_live (map as_lease ls) n && not b) (eq-eqb n n refl) ∙ and_false (is_live (map as_lease ls) n)) in
+            absurd (none_live n (without (Some n) ls) live x there (of ∙ this))
+        | inr differ ↦ freed id ∙ (ap (λ v. cond v None (numbers id)) differ.0 ∙ before)
       ],
-  λ found. elim (eqb_tells k n) [
-    | inl this ↦
-        let one : w ≡ found.0 = same_Some w found.0 (sym (written k ∙ ap (λ b. cond b (Some w) (at k)) (at_number n k ∙ this.0)) ∙ found.1) in
-        (were id k).1 (v, ap at this.1 ∙ here, sym same_id ∙ (ap (λ (l : HeldLease). l.id) one ∙ found.2))
-    | inr other ↦ (were id k).1 (found.0, sym (written k ∙ ap (λ b. cond b (Some w) (at k)) (at_number n k ∙ other.0)) ∙ found.1, found.2)
-  ],
 )
 
 -- a worker has a new lease in the place of its own one
-pub workers_replaced : (numbers next : ℕ → Option ℕ) (at after : ℕ → Option HeldLease) (own : Option ℕ) (n : ℕ) (v : HeldLease) → AreOfWorkers numbers at → at n ≡ None
-    → ((k : ℕ) (l : HeldLease) → at k ≡ Some l → l.id ≡ v.id → is_numbered own k ≡ true) → ((k : ℕ) (l : HeldLease) → at k ≡ Some l → is_numbered own k ≡ true → l.id ≡ v.id) → is_numbered own n ≡ false
-    → ((q : ℕ) → after q ≡ cond (is_numbered own q) None (cond (nat_eq q n) (Some v) (at q))) → ((q : ℕ) → next q ≡ cond (nat_eq v.id q) (Some n) (numbers q)) → AreOfWorkers next after
-workers_replaced numbers next at after own n v were fresh only exact other_own put given id k = (
+pub workers_replaced : (numbers next : ℕ → Option ℕ) (ls : List StoredLease) (own : Option ℕ) (v : StoredLease) → AreOfWorkers numbers ls → IsOwn v.id own ls
+    → ((q : ℕ) → next q ≡ cond (nat_eq v.id q) (Some v.number) (numbers q)) → AreOfWorkers next (without own ls ++ (v ∷ []))
+workers_replaced numbers next ls own v were is given id k = (
   λ h. elim (eqb_tells v.id id) [
     | inl same ↦
-        let number : n ≡ k = same_Some n k (sym (given id ∙ ap (λ b. cond b (Some n) (numbers id)) same.0) ∙ h) in
-        (v, subst (λ k. after k ≡ Some v) number (put n ∙ (ap (λ b. cond b None (cond (nat_eq n n) (Some v) (at n))) other_own ∙ ap (λ b. cond b (Some v) (at n)) (eq-eqb n n refl))), same.1)
+        let number : v.number ≡ k = same_Some v.number k (sym (given id ∙ ap (λ b. cond b (Some v.number) (numbers id)) same.0) ∙ h) in
+        (v, in_last (without own ls) v, number, same.1)
     | inr differ ↦
-        let found = (were id k).0 (sym (given id ∙ ap (λ b. cond b (Some n) (numbers id)) differ.0) ∙ h) in
-        let was = found.1 in
-        let not_own : is_numbered own k ≡ false = elim (is_numbered own k) as (λ b. is_numbered own k ≡ b → is_numbered own k ≡ false) [ true ↦ λ e. absurd (differ.1 (sym (exact k found.0 found.1 e) ∙ found.2)) | false ↦ λ e. e ] refl in
-        let not_new : nat_eq k n ≡ false = elim (eqb_tells k n) [ inl this ↦ let none = ap at this.1 ∙ fresh in absurd (cc) | inr other ↦ other.0 ] in
-        (found.0, put k ∙ (ap (λ b. cond b None (cond (nat_eq k n) (Some v) (at k))) not_own ∙ (ap (λ b. cond b (Some v) (at k)) not_new ∙ found.1)), found.2)
+        let (x, there, of, by) = (were id k).0 (sym (given id ∙ ap (λ b. cond b (Some v.number) (numbers id)) differ.0) ∙ h) in
+        let not_own : is_numbered own x.number ≡ false = elim (is_numbered own x.number) as (λ b. is_numbered own x.number ≡ b → b ≡ false) [
+          | true ↦ λ e. absurd (differ.1 (sym (is.exact x there (own_number own x.number e)) ∙ by))
+          | false ↦ λ e. refl
+        ] refl in
+        (x, in_first (without own ls) v x (in_filter (λ l. not (is_numbered own l.number)) ls x there (ap not not_own)), of, by)
   ],
   λ found.
-      let there = found.1 in
-      let not_own : is_numbered own k ≡ false = elim (is_numbered own k) as (λ b. is_numbered own k ≡ b → is_numbered own k ≡ false) [
-        | true ↦ λ e. let none = put k ∙ ap (λ b. cond b None (cond (nat_eq k n) (Some v) (at k))) e in absurd (cc)
-        | false ↦ λ e. e
-      ] refl in
-      let mid : cond (nat_eq k n) (Some v) (at k) ≡ Some found.0 = sym (put k ∙ ap (λ b. cond b None (cond (nat_eq k n) (Some v) (at k))) not_own) ∙ found.1 in
-      elim (eqb_tells k n) [
-        | inl this ↦
-            let one : v ≡ found.0 = same_Some v found.0 (sym (ap (λ b. cond b (Some v) (at k)) this.0) ∙ mid) in
-            given id ∙ (ap (λ b. cond b (Some n) (numbers id)) (eq-eqb v.id id (ap (λ (l : HeldLease). l.id) one ∙ found.2)) ∙ ap Some (sym this.1))
-        | inr other ↦
-            let was : at k ≡ Some found.0 = sym (ap (λ b. cond b (Some v) (at k)) other.0) ∙ mid in
-            let differ : nat_eq v.id id ≡ false = elim (eqb_tells v.id id) [ inl same ↦ let own_one = only k found.0 was (found.2 ∙ sym same.1) in absurd (cc) | inr differ ↦ differ.0 ] in
-            given id ∙ (ap (λ b. cond b (Some n) (numbers id)) differ ∙ (were id k).1 (found.0, was, found.2))
+      let (x, there, of, by) = found in
+      elim (member_append (without own ls) v x there) [
+        | inr last ↦
+            let same_id : v.id ≡ id = ap (λ (l : StoredLease). l.id) (sym last) ∙ by in
+            given id ∙ (ap (λ b. cond b (Some v.number) (numbers id)) (eq-eqb v.id id same_id) ∙ ap (λ n. Some n) (ap (λ (l : StoredLease). l.number) (sym last) ∙ of))
+        | inl before ↦
+            let was = filter_member (λ l. not (is_numbered own l.number)) ls x before in
+            let passes : is_numbered own x.number ≡ false = passed own ls x before in
+            let differ : nat_eq v.id id ≡ false = elim (eqb_tells v.id id) [
+              | inl same ↦ let owned = ap (λ o. is_numbered o x.number) (is.only x was (by ∙ sym same.1)) ∙ eq-eqb x.number x.number refl in absurd (cc)
+              | inr apart ↦ apart.0
+            ] in
+            given id ∙ (ap (λ b. cond b (Some v.number) (numbers id)) differ ∙ (were id k).1 (x, was, of, by))
       ],
 )
+  where
+    in_last : (xs : List StoredLease) (x : StoredLease) → Contains (xs ++ (x ∷ [])) x
+    in_last [] x = first_member x x [] refl
+    in_last (y ∷ ys) x = later_member y (ys ++ (x ∷ [])) x (in_last ys x)
+
+    in_first : (xs : List StoredLease) (l x : StoredLease) → Contains xs x → Contains (xs ++ (l ∷ [])) x
+    in_first [] l x h = absurd (omega (arith, h.1))
+    in_first (y ∷ ys) l x h = elim (first_or_later y ys x h) [ inl same ↦ first_member y x (ys ++ (l ∷ [])) same | inr later ↦ later_member y (ys ++ (l ∷ [])) x (in_first ys l x later) ]
+
+    passed : (which : Option ℕ) (xs : List StoredLease) (x : StoredLease) → Contains (without which xs) x → is_numbered which x.number ≡ false
+    passed which xs x h = elim (is_numbered which x.number) as (λ b. is_numbered which x.number ≡ b → b ≡ false) [
+      | true ↦ λ e.
+          let live = live_without which xs x.number ∙ (ap (λ b. is_live (map as_lease xs) x.number && not b) e ∙ and_false (is_live (map as_lease xs) x.number)) in
+          absurd (none_live x.number (without which xs) live x h refl)
+      | false ↦ λ e. refl
+    ] refl
 
 -- the leases without a worker's own one are those of the others
 pub of_others : (id : ℕ) (own : Option ℕ) (ls : List StoredLease) → ((l : StoredLease) → Contains ls l → l.id ≡ id → own ≡ Some l.number) → ((l : StoredLease) → Contains ls l → own ≡ Some l.number → l.id ≡ id)
@@ -235,88 +230,45 @@ of_others id own (l ∷ ls) only exact =
     ] in
     ap (λ b. cond (not b) (l ∷ without own ls) (without own ls)) same ∙ ap (λ xs. cond (not (nat_eq l.id id)) (l ∷ xs) xs) rest
 
--- nothing ended
-pub workers_missing : (numbers : ℕ → Option ℕ) (at after : ℕ → Option HeldLease) (n : ℕ) → AreOfWorkers numbers at → at n ≡ None → ((q : ℕ) → after q ≡ cond (is_eq (nat_cmp n q)) None (at q)) → AreOfWorkers numbers after
-workers_missing numbers at after n were none gone id k =
-    let same : after k ≡ at k = elim (eqb_tells k n) [
-      | inl this ↦ gone k ∙ (ap (λ v. cond v None (at k)) (at_number n k ∙ this.0) ∙ sym (ap at this.1 ∙ none))
-      | inr other ↦ gone k ∙ ap (λ v. cond v None (at k)) (at_number n k ∙ other.0)
-    ] in
-    (λ h. let found = (were id k).0 h in (found.0, same ∙ found.1, found.2), λ found. (were id k).1 (found.0, sym same ∙ found.1, found.2))
+-- by number and worker alone it is seen that numbers rise, and whose they are
+unfoldable pub named : StoredLease → ℕ × ℕ
+named l = (l.number, l.id)
 
-length_left : (n : ℕ) (es : List (ℕ × HeldLease)) → length (without (Some n) (map stored_lease es)) + (if is_some (lookup (is_at (nat_cmp n)) es) then 1 else 0) ≡ length es → (b : Bool) → is_some (lookup (is_at (nat_cmp n)) es) ≡ b
-    → length (without (Some n) (map stored_lease es)) + (if b then 1 else 0) ≡ length es
-length_left n es all b is = ap (λ b. length (without (Some n) (map stored_lease es)) + (if b then 1 else 0)) (sym is) ∙ all
+pub same_rise : (ls new : List StoredLease) → map named new ≡ map named ls → RiseByNumber ls → RiseByNumber new
+unfolding named
+same_rise ls new same rise i j d less below =
+    let lengths : length new ≡ length ls = sym (length-map new named) ∙ (ap length same ∙ length-map ls named) in
+    let at : (k : ℕ) → k < length new → (get_or new k d).number ≡ (get_or ls k d).number = λ k within.
+    ap (λ (p : ℕ × ℕ). p.0) (sym (get_or-map named new k d (named d) within) ∙ (ap (λ (xs : List (ℕ × ℕ)). get_or xs k (named d)) same ∙ get_or-map named ls k d (named d) (omega (arith, within, lengths)))) in
+    let rising = rise i j d less (omega (arith, below, lengths)) in
+    omega (arith, rising, at i (omega (arith, less, below)), at j below)
 
-pub length_removed : (n : ℕ) (es : List (ℕ × HeldLease)) → length (map stored_lease (remove_entry (is_at (nat_cmp n)) es)) + (if is_some (lookup (is_at (nat_cmp n)) es) then 1 else 0) ≡ length es
-length_removed n [] = refl
-length_removed n (e ∷ es) =
-    elim (is_eq (nat_cmp n e.0)) as (λ b. length (map stored_lease (cond b es (e ∷ remove_entry (is_at (nat_cmp n)) es))) + (if is_some (cond b (Some e.1) (lookup (is_at (nat_cmp n)) es)) then 1 else 0) ≡ length (e ∷ es)) [
-      | true ↦ let same = length-map es stored_lease in omega arith
-      | false ↦ let fewer = length_removed n es in omega arith
-    ]
+same_has : (ls new : List StoredLease) (id n : ℕ) → map named new ≡ map named ls → HasLease ls id n → HasLease new id n
+unfolding named
+same_has ls new id n same (l, member, number, by) =
+    let (x, there, is) = unmapped named new (named l) (subst (λ (xs : List (ℕ × ℕ)). Contains xs (named l)) (sym same) (mapped named ls l member)) in
+    (x, there, ap (λ (p : ℕ × ℕ). p.0) is ∙ number, ap (λ (p : ℕ × ℕ). p.1) is ∙ by)
 
-pub length_found : (n : ℕ) (es : List (ℕ × HeldLease)) → IsStrictlySortedBy nat_cmp (keys_of es) → is_some (lookup (is_at (nat_cmp n)) es) ≡ true → length (without (Some n) (map stored_lease es)) + 1 ≡ length es
-length_found n es sorted found =
-    length_left n es (ap (λ (ls : List StoredLease). length ls + (if is_some (lookup (is_at (nat_cmp n)) es) then 1 else 0)) (sym (removed_is n es sorted)) ∙ length_removed n es) true found
+pub same_workers : (numbers : ℕ → Option ℕ) (ls new : List StoredLease) → map named new ≡ map named ls → AreOfWorkers numbers ls → AreOfWorkers numbers new
+same_workers numbers ls new same were id n = (λ h. same_has ls new id n same ((were id n).0 h), λ found. (were id n).1 (same_has new ls id n (sym same) found))
 
-pub length_missing : (n : ℕ) (es : List (ℕ × HeldLease)) → IsStrictlySortedBy nat_cmp (keys_of es) → is_some (lookup (is_at (nat_cmp n)) es) ≡ false → length (without (Some n) (map stored_lease es)) ≡ length es
-length_missing n es sorted none =
-    let same = length_left n es (ap (λ (ls : List StoredLease). length ls + (if is_some (lookup (is_at (nat_cmp n)) es) then 1 else 0)) (sym (removed_is n es sorted)) ∙ length_removed n es) false none in
-    omega arith
-
-pub is_own : (id : ℕ) (own : Option ℕ) (m : BTreeMap ℕ HeldLease) (numbers : ℕ → Option ℕ) → IsOrdered nat_cmp m → AreOfWorkers numbers (get nat_cmp m) → own ≡ numbers id → IsOwn id own (map stored_lease m.entries)
-is_own id own m numbers ordered were is = record {
-  lives = elim own as (λ o. own ≡ o → IfSome o (λ n. is_live (map as_lease (map stored_lease m.entries)) n ≡ true)) [
+pub is_own : (id : ℕ) (own : Option ℕ) (ls : List StoredLease) (numbers : ℕ → Option ℕ) → RiseByNumber ls → AreOfWorkers numbers ls → own ≡ numbers id → IsOwn id own ls
+is_own id own ls numbers rise were is = record {
+  lives = elim own as (λ o. own ≡ o → IfSome o (λ n. is_live (map as_lease ls) n ≡ true)) [
     | None ↦ λ e. tt
     | Some n ↦ λ e.
-        let found = (were id n).0 (sym is ∙ e) in
-        sym (lives_is n m.entries) ∙ ap is_some found.1
+        let (l, member, number, by) = (were id n).0 (sym is ∙ e) in
+        subst (λ k. is_live (map as_lease ls) k ≡ true) number (member_lives ls l member)
   ] refl;
-  only = λ l member same.
-      let there = member_at m ordered l member in
-      is ∙ (were id l.number).1 (there.0, there.1, ap (λ (l : StoredLease). l.id) there.2 ∙ same);
+  only = λ l member same. is ∙ (were id l.number).1 (l, member, refl, same);
   exact = λ l member e.
-      let there = member_at m ordered l member in
-      let found = (were id l.number).0 (sym is ∙ e) in
-      sym (ap (λ (l : StoredLease). l.id) there.2) ∙ (ap (λ (v : HeldLease). v.id) (same_Some there.0 found.0 (sym there.1 ∙ found.1)) ∙ found.2);
+      let (x, there, of, by) = (were id l.number).0 (sym is ∙ e) in
+      ap (λ (l : StoredLease). l.id) (only_one ls l x rise member there (sym of)) ∙ by;
 }
-
-pub freed_one : (which : Option ℕ) (n : ℕ) (v : HeldLease) (m : BTreeMap ℕ HeldLease) (free : List Packed) → IsOrdered nat_cmp m → which ≡ Some n → get nat_cmp m n ≡ Some v → ((q : Packed) → Contains v.tables.keys q → Contains free q)
-    → AreAmongFree (λ l. is_numbered which l.number) (map stored_lease m.entries) free
-freed_one which n v m free ordered is found all l t member ends h =
-    let there = member_at m ordered l member in
-    let number : l.number ≡ n = eqb-true l.number n (ap (λ o. is_numbered o l.number) (sym is) ∙ ends) in
-    let one : there.0 ≡ v = same_Some there.0 v (sym there.1 ∙ (ap (get nat_cmp m) number ∙ found)) in
-    all t (subst (λ (v : HeldLease). Contains v.tables.keys t) one (subst (λ (l : StoredLease). Contains l.tables t) (sym there.2) h))
-
-pub freed_none : (which : Option ℕ) (n : ℕ) (m : BTreeMap ℕ HeldLease) (free : List Packed) → IsOrdered nat_cmp m → which ≡ Some n → get nat_cmp m n ≡ None
-    → AreAmongFree (λ l. is_numbered which l.number) (map stored_lease m.entries) free
-freed_none which n m free ordered is none l t member ends h =
-    let there = member_at m ordered l member in
-    let number : l.number ≡ n = eqb-true l.number n (ap (λ o. is_numbered o l.number) (sym is) ∙ ends) in
-    let gone = sym there.1 ∙ (ap (get nat_cmp m) number ∙ none) in
-    absurd (cc)
 
 pub if_ok : {T E : Type 0} {P Q : Type 0} (r : Result T E) → (P → Q) → OnOk r P → OnOk r Q
 if_ok (Ok x) f p = f p
 if_ok (Err e) f p = tt
-
-pub found_member : (n : ℕ) (v : HeldLease) (es : List (ℕ × HeldLease)) → lookup (is_at (nat_cmp n)) es ≡ Some v → Contains (map stored_lease es) (stored_lease (n, v))
-found_member n v es found = mapped stored_lease es (n, v) (Contains-from_lookup {eq = λ x y. is_at (nat_cmp x) y} (λ x y e. sym (eqb-true y x (sym (at_number x y) ∙ e))) n v es found)
-
-pub fresh_at : (n : ℕ) (es : List (ℕ × HeldLease)) → All (λ (l : StoredLease). l.number < n) (map stored_lease es) → lookup (is_at (nat_cmp n)) es ≡ None
-fresh_at n es last =
-    elim (lookup (is_at (nat_cmp n)) es) as (λ o. lookup (is_at (nat_cmp n)) es ≡ o → o ≡ None) [
-      | None ↦ λ e. refl
-      | Some v ↦ λ e. let less = All-contains (λ (l : StoredLease). l.number < n) (map stored_lease es) (stored_lease (n, v)) last (found_member n v es e) in absurd (omega arith)
-    ] refl
-
-pub own_one : (id : ℕ) (own : Option ℕ) (m : BTreeMap ℕ HeldLease) → IsOwn id own (map stored_lease m.entries) → (k : ℕ) (l : HeldLease) → get nat_cmp m k ≡ Some l → l.id ≡ id → is_numbered own k ≡ true
-own_one id own m is k l found same = ap (λ o. is_numbered o k) (is.only (stored_lease (k, l)) (found_member k l m.entries found) same) ∙ eq-eqb k k refl
-
-pub owned : (id : ℕ) (own : Option ℕ) (m : BTreeMap ℕ HeldLease) → IsOwn id own (map stored_lease m.entries) → (k : ℕ) (l : HeldLease) → get nat_cmp m k ≡ Some l → is_numbered own k ≡ true → l.id ≡ id
-owned id own m is k l found e = is.exact (stored_lease (k, l)) (found_member k l m.entries found) (own_number own k e)
 
 -- a number that is greater than all isn't a worker's
 pub not_own : (id : ℕ) (own : Option ℕ) (n : ℕ) (ls : List StoredLease) → IsOwn id own ls → All (λ (l : StoredLease). l.number < n) ls → is_numbered own n ≡ false
@@ -327,18 +279,24 @@ not_own id (Some m) n ls is last =
     let number = l.2 in
     elim (eqb_tells n m) [ inl same ↦ let e = same.1 in absurd (omega arith) | inr differ ↦ differ.0 ]
 
--- room under a number
-pub room_one : (n : ℕ) (w : HeldLease) (m : BTreeMap ℕ HeldLease) → IsOrdered nat_cmp m → get nat_cmp m n ≡ Some w → child_limit ≤ (stored_lease (n, w)).room → HasRoomForChildren n (map stored_lease m.entries)
-room_one n w m ordered found room l member number =
-    let there = member_at m ordered l member in
-    let one : there.0 ≡ w = same_Some there.0 w (sym there.1 ∙ (ap (get nat_cmp m) number ∙ found)) in
-    subst (λ (l : StoredLease). child_limit ≤ l.room) there.2 (subst (λ (v : HeldLease). child_limit ≤ (stored_lease (l.number, v)).room) (sym one) room)
+-- the tables of a lease that stands at a place are among the free ones
+pub freed_one : (which : Option ℕ) (n : ℕ) (ls : List StoredLease) (i : ℕ) (v : StoredLease) (free : List Packed) → RiseByNumber ls → which ≡ Some n → StandsAt n ls i → v ≡ get_or ls i v
+    → ((q : Packed) → Contains v.tables q → Contains free q) → AreAmongFree (λ l. is_numbered which l.number) ls free
+freed_one which n ls i v free rise is at here all l t member ends h =
+    let number : l.number ≡ n = eqb-true l.number n (ap (λ o. is_numbered o l.number) (sym is) ∙ ends) in
+    let there : Contains ls v = (i, at.0, sym here) in
+    let own : v.number ≡ n = ap (λ (l : StoredLease). l.number) here ∙ at.1 v in
+    all t (subst (λ (l : StoredLease). Contains l.tables t) (only_one ls l v rise member there (number ∙ sym own)) h)
 
-pub room_none : (n : ℕ) (m : BTreeMap ℕ HeldLease) → IsOrdered nat_cmp m → get nat_cmp m n ≡ None → HasRoomForChildren n (map stored_lease m.entries)
-room_none n m ordered none l member number =
-    let there = member_at m ordered l member in
-    let gone = sym there.1 ∙ (ap (get nat_cmp m) number ∙ none) in
-    absurd (cc)
+pub freed_none : (which : Option ℕ) (n : ℕ) (ls : List StoredLease) (free : List Packed) → which ≡ Some n → is_live (map as_lease ls) n ≡ false → AreAmongFree (λ l. is_numbered which l.number) ls free
+freed_none which n ls free is none l t member ends h = absurd (none_live n ls none l member (eqb-true l.number n (ap (λ o. is_numbered o l.number) (sym is) ∙ ends)))
+
+-- room under a number
+pub room_one : (n : ℕ) (ls : List StoredLease) (w : StoredLease) → RiseByNumber ls → Contains ls w → w.number ≡ n → child_limit ≤ w.room → HasRoomForChildren n ls
+room_one n ls w rise there own room l member number = subst (λ (l : StoredLease). child_limit ≤ l.room) (sym (only_one ls l w rise member there (number ∙ sym own))) room
+
+pub room_none : (n : ℕ) (ls : List StoredLease) → is_live (map as_lease ls) n ≡ false → HasRoomForChildren n ls
+room_none n ls none l member number = absurd (none_live n ls none l member number)
 
 pub one_less : {a b : ℕ} → a + 1 ≡ b → b - 1 ≡ a
 one_less {a} {b} e = omega (arith, e)

@@ -2,4 +2,3 @@
 pub mod Free
 pub mod Stored
 pub mod Children
-pub mod Deadlines

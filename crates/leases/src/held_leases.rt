@@ -11,10 +11,10 @@ use kind_evidence::NoMemory;
 use machine_text::Table;
 use std::alloc::Global;
 
-// A live lease, which stands under its number: its worker, when it was given or renewed, and the open tables that
-// are under it.
+// A live lease: its number, its worker, when it was given or renewed, and the open tables that are under it.
 #[derive(Drop)]
 pub(crate) struct HeldLease {
+    pub number: u64,
     pub id: u32,
     pub renewed: u64,
     pub tables: IndexSet<Table>,

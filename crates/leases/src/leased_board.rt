@@ -36,7 +36,7 @@ pub struct LeasedBoard {
 impl Model for LeasedBoard {
     ghost use Rattle.leases.specs.Leases.{Leased, AreLeases};
     ghost use Rattle.leases.specs.inside.Stored.{as_leases, AreStored};
-    ghost use Rattle.leases.specs.inside.Deadlines.{AreNotAhead};
+    ghost use Rattle.leases.specs.inside.Stored.{AreNotAhead};
 
     ghost Value = { Leased };
 
@@ -149,11 +149,12 @@ impl LeasedBoard {
                 let tables = only(self.alloc, table)?;
                 self.came_under.reserve(1)?;
                 let new = HeldLease {
+                    number: lease,
                     id,
                     renewed: self.moment,
                     tables,
                 };
-                self.live.replace(own, lease, new)?;
+                self.live.replace(own, new)?;
                 match self.came_under.insert(table, lease) {
                     Ok(_) => {}
                     Err(_) => unreachable!(),

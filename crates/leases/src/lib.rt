@@ -9,14 +9,13 @@
 
 mod board_calls;
 mod children;
-mod deadlines;
-mod ended_leases;
 mod first_free;
 mod free_tables;
 mod held_leases;
 mod leased_board;
 mod limits;
 mod live_leases;
+mod places;
 mod reply;
 
 pub use leased_board::LeasedBoard;

@@ -1,5 +1,5 @@
 -- For the code: how leases are stored, and as what they are seen.
-use Rattle.std.specs.Prelude.{◌≡◌, ℕ, ◌+◌, ◌==◌, ◌↔◌, Bool, true, false, not, nat_le, List, Contains, Option, Some, None, IfSome, map, filter}
+use Rattle.std.specs.Prelude.{◌≡◌, ℕ, ◌+◌, ◌<◌, ◌≤◌, ◌==◌, ◌↔◌, Bool, true, false, not, nat_le, List, AllPairs, Contains, Option, Some, None, IfSome, length, map, filter, slice_index_or}
 use Rattle.std.specs.List.{list_any}
 use Rattle.indexmap.specs.IndexSet.{spare}
 use Rattle.machine_text.specs.Packed.{Packed}
@@ -17,14 +17,13 @@ pub record StoredLease : Type 0 where
   pub tables : List Packed
   pub room : ℕ
 
-abbrev pub stored_lease : ℕ × HeldLease → StoredLease
-stored_lease e = record {
-  number = e.0;
-  id = e.1.id;
-  renewed = e.1.renewed;
-  tables = e.1.tables.keys;
-  room = spare
-      e.1.tables;
+abbrev pub stored_lease : HeldLease → StoredLease
+stored_lease l = record {
+  number = l.number;
+  id = l.id;
+  renewed = l.renewed;
+  tables = l.tables.keys;
+  room = spare l.tables;
 }
 
 -- a lease as it is seen: the code keeps when it was given or renewed, since a deadline may be greater than its numbers
@@ -34,6 +33,10 @@ as_lease l = record { number = l.number; id = l.id; deadline = l.renewed + lease
 -- whether a lease has ended by a moment
 abbrev pub has_ended : ℕ → Lease → Bool
 has_ended moment l = nat_le l.deadline moment
+
+-- the numbers of the leases that have ended by a moment, in their order
+abbrev pub due_of : ℕ → List StoredLease → List ℕ
+due_of moment leases = map (λ l. l.number) (filter (λ l. has_ended moment (as_lease l)) leases)
 
 -- the leases that are stored so, as they are seen
 abbrev pub as_leases : List StoredLease → List (Packed × ℕ) → ℕ → ℕ → Leases
@@ -67,10 +70,30 @@ are_numbered numbers n = list_any (λ m. n == m) numbers
 abbrev pub without_each : List ℕ → List StoredLease → List StoredLease
 without_each numbers leases = filter (λ l. not (are_numbered numbers l.number)) leases
 
--- the numbers of the workers' leases, against the leases under their numbers
-abbrev pub AreOfWorkers : (ℕ → Option ℕ) → (ℕ → Option HeldLease) → Type 0
-AreOfWorkers number_of lease_at = (id n : ℕ) → number_of id ≡ Some n
-    ↔ ((l : HeldLease) × (lease_at n ≡ Some l) × (l.id ≡ id))
+-- the leases stand in the order of their numbers, none of which comes twice
+abbrev pub RiseByNumber : List StoredLease → Type 0
+RiseByNumber leases = AllPairs (λ a b. a.number < b.number) leases
+
+-- the lease of a number stands at a place
+abbrev pub StandsAt : ℕ → List StoredLease → ℕ → Type 0
+StandsAt n leases place =
+    (place < length leases) × ((l : StoredLease) → (slice_index_or leases place l).number ≡ n)
+
+-- there is a lease of a worker under a number
+abbrev pub HasLease : List StoredLease → ℕ → ℕ → Type 0
+HasLease leases id n = (l : StoredLease) × Contains leases l × (l.number ≡ n) × (l.id ≡ id)
+
+-- the numbers of the workers' leases
+abbrev pub AreOfWorkers : (ℕ → Option ℕ) → List StoredLease → Type 0
+AreOfWorkers number_of leases = (id n : ℕ) → number_of id ≡ Some n ↔ HasLease leases id n
+
+-- no lease was given or renewed before a moment
+abbrev pub AreNotBefore : ℕ → List StoredLease → Type 0
+AreNotBefore moment leases = (l : StoredLease) → Contains leases l → moment ≤ l.renewed
+
+-- no lease was given or renewed after a moment
+abbrev pub AreNotAhead : ℕ → List StoredLease → Type 0
+AreNotAhead moment leases = (l : StoredLease) → Contains leases l → l.renewed ≤ moment
 
 -- these are the numbers of the leases that have ended by a moment
 pub record AreDue (moment : ℕ) (leases : List Lease) (numbers : List ℕ) : Type 0 where

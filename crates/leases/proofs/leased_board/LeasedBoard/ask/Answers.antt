@@ -1,4 +1,4 @@
-use Rattle.std.proofs.Common.{◌≡◌, ◌+◌, ◌<◌, not, refl, sym, ◌∙◌, ap, subst, List, map, length}
+use Rattle.std.proofs.Common.{◌≡◌, ◌+◌, ◌<◌, refl, sym, ◌∙◌, ap, subst, List, map, length}
 use Rattle.std.proofs.lemmas.List.{length-map}
 use Rattle.machine_text.specs.Packed.{Packed}
 use Rattle.ledger.specs.Records.{same_table}
@@ -7,7 +7,7 @@ use Rattle.leases.specs.inside.Stored.{StoredLease, stored_lease, as_lease, as_l
 use Rattle.leases.specs.declared.reply.Reply.TheVariants.{Stop, Later, Grant}
 use Rattle.leases.proofs.Asking.{below_next, ended_kept, granted, granted_kept, none_kept, others_hold, own_ends, refused_holds}
 use Rattle.leases.proofs.Ending.{asks_by}
-use Rattle.leases.proofs.DeadlineLaws.{same_not_ahead}
+use Rattle.leases.proofs.Moments.{same_not_ahead}
 use Rattle.leases.proofs.leased_board.LeasedBoard.ask.Goals as goal
 
 pub invariant_of-self-then-not-has_open : goal.invariant_of-self-then-not-has_open
@@ -72,7 +72,7 @@ invariant_of-self-in_err-replace-in-Some c = (
 pub invariant_of-self-in-Some : goal.invariant_of-self-in-Some
 unfolding same_table
 invariant_of-self-in-Some c =
-    let l : StoredLease = stored_lease (c.self.inside.given + 1, record { id = c.args.id; renewed = c.self.inside.moment; tables = c.in_ok-tables-in-Some.tables }) in
+    let l : StoredLease = stored_lease (record { number = c.self.inside.given + 1; id = c.args.id; renewed = c.self.inside.moment; tables = c.in_ok-tables-in-Some.tables }) in
     let others = without c.of_worker-own.result c.self.inside.live in
     let count : length (map as_lease others) ≡ c.len_without.result = length-map others as_lease ∙ sym c.len_without.ensures in
     let may = c.may_grant.ensures.0 c.if-not-may_grant.false in
@@ -89,7 +89,7 @@ invariant_of-self-in-None c =
 pub returns-in-Ok-clause-ok : goal.returns-in-Ok-clause-ok
 unfolding same_table
 returns-in-Ok-clause-ok c =
-    let l : StoredLease = stored_lease (c.self.inside.given + 1, record { id = c.args.id; renewed = c.self.inside.moment; tables = c.in_ok-tables-in-Some.tables }) in
+    let l : StoredLease = stored_lease (record { number = c.self.inside.given + 1; id = c.args.id; renewed = c.self.inside.moment; tables = c.in_ok-tables-in-Some.tables }) in
     let others = without c.of_worker-own.result c.self.inside.live in
     let count : length (map as_lease others) ≡ c.len_without.result = length-map others as_lease ∙ sym c.len_without.ensures in
     let may = c.may_grant.ensures.0 c.if-not-may_grant.false in

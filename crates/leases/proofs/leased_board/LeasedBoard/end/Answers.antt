@@ -1,7 +1,7 @@
 use Rattle.std.proofs.Common.{nat_eq, refl, ap, Some}
 use Rattle.leases.specs.Leases.{Leased}
 use Rattle.leases.proofs.Ending.{seen_ended, ended_holds}
-use Rattle.leases.proofs.DeadlineLaws.{without_not_ahead}
+use Rattle.leases.proofs.Moments.{without_not_ahead}
 use Rattle.leases.proofs.leased_board.LeasedBoard.end.Goals as goal
 
 pub invariant_of-self-2 : goal.invariant_of-self-2

@@ -12,7 +12,7 @@ use Rattle.leases.specs.inside.Stored.{StoredLease, as_lease, as_leases, AreStor
 use Rattle.leases.specs.inside.Children.{RenewsOne, shown}
 use Rattle.leases.proofs.ChildLaws.{Opens, opens_new}
 use Rattle.leases.proofs.Offering.{GoesOut, err_is, same_board, refused_board, same_held, holds_shown, seen_shown, while_lives, under_new_leases, under_new_kept, under_new_takes}
-use Rattle.leases.proofs.DeadlineLaws.{shown_not_ahead, renewed_not_ahead}
+use Rattle.leases.proofs.Moments.{shown_not_ahead, renewed_not_ahead}
 use Rattle.leases.proofs.leased_board.LeasedBoard.offer_under.Goals as goal
 
 pub invariant_of-self-in_err-make_room : goal.invariant_of-self-in_err-make_room

@@ -1,8 +1,6 @@
-use Rattle.std.proofs.Common.{◌∙◌, ap, List, map}
-use Rattle.leases.specs.Leases.{is_live}
-use Rattle.leases.specs.inside.Stored.{StoredLease, as_lease}
-use Rattle.leases.proofs.LiveLaws.{lives_is}
+use Rattle.std.proofs.Common.{◌∙◌}
+use Rattle.leases.proofs.Listing.{lives_by}
 use Rattle.leases.proofs.live_leases.LiveLeases.lives.Goals as goal
 
 pub returns : goal.returns
-returns c = c.contains_key.ensures ∙ (lives_is c.args.number c.self.inside.leases.entries ∙ ap (λ (ls : List StoredLease). is_live (map as_lease ls) c.args.number) c.self.view_is)
+returns c = c.is_some.ensures ∙ lives_by c.args.number c.args.self.now c.place.result c.place.ensures.at c.place.ensures.none

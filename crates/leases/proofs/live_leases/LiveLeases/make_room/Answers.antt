@@ -1,54 +1,60 @@
-use Rattle.std.proofs.Common.{ℕ, nat_eq, refl, sym, ◌∙◌, ap, subst, List, IsSome, map, arith}
-use Rattle.std.specs.Ordering.{nat_cmp}
-use Rattle.std.specs.Option.{option_copied_mut}
-use Rattle.std.specs.BTreeMap.{BTreeMap, IsOrdered, get}
+use Rattle.std.proofs.Common.{◌≡◌, ◌<◌, ◌≤◌, List, get_or, length, map, nat_eq, refl, sym, ◌∙◌, ap, subst, arith}
+use Rattle.std.proofs.Math.ListN.{set}
 use Rattle.std.proofs.Math.Seq.{map-set_same}
+use Rattle.std.proofs.lemmas.List.{length-map, map-set}
 use Rattle.indexmap.specs.IndexMap.{get as number_of}
 use Rattle.machine_text.specs.Packed.{Packed}
-use Rattle.leases.specs.inside.Stored.{stored_lease, as_lease, AreOfWorkers}
-use Rattle.leases.specs.inside.Children.{HasRoomForChildren, shown}
-use Rattle.leases.specs.inside.Deadlines.{AreAwaited}
+use Rattle.leases.specs.Limits.{child_limit}
 use Rattle.leases.specs.declared.held_leases.HeldLease.{HeldLease}
-use Rattle.leases.proofs.LiveLaws.{set_place, workers_same, room_one, room_none, if_ok}
-use Rattle.leases.proofs.DeadlineLaws.{written_awaited}
+use Rattle.leases.specs.inside.Stored.{AreNotBefore, AreOfWorkers, RiseByNumber, StandsAt, StoredLease, stored_lease, as_lease}
+use Rattle.leases.specs.inside.Children.{HasRoomForChildren, shown}
+use Rattle.leases.proofs.Listing.{kept_by_set, read_at, set_there}
+use Rattle.leases.proofs.LiveLaws.{if_ok, room_none, room_one}
 use Rattle.leases.proofs.live_leases.LiveLeases.make_room.Goals as goal
+
+pub returns-in_default-clause-ok : goal.returns-in_default-clause-ok
+returns-in_default-clause-ok c = room_none c.args.number c.args.self.now c.in_default.ensures.none
 
 pub invariant_of-self : goal.invariant_of-self
 invariant_of-self c =
-    subst (λ (m : BTreeMap ℕ HeldLease). IsOrdered nat_cmp m × AreOfWorkers (number_of nat_eq c.self.inside.of_worker) (get nat_cmp m) × AreAwaited c.self.inside.deadlines.entries (get nat_cmp m)) (sym c.get_mut.follows.holds-at-none) c.self.invariant
-
-pub returns-in_default-clause-ok : goal.returns-in_default-clause-ok
-returns-in_default-clause-ok c =
-    subst (λ (m : BTreeMap ℕ HeldLease). HasRoomForChildren c.args.number (map stored_lease m.entries)) (sym c.get_mut.follows.holds-at-none)
-    (room_none c.args.number c.self.inside.leases c.self.invariant.0 (sym c.get_mut.ensures.value ∙ ap option_copied_mut c.in_default.is))
-
-pub invariant_of-self-2 : goal.invariant_of-self-2
-invariant_of-self-2 c =
-    let v = c.in-Some.lease.now in
-    let w : HeldLease = record { id = v.id; renewed = v.renewed; tables = c.reserve.new.self } in
-    let found = sym c.get_mut.ensures.value ∙ ap option_copied_mut c.in-Some.is in
-    let writes = c.get_mut.follows.holds w in (
-      writes.4,
-      workers_same _ _ _ c.args.number v w c.self.invariant.1 found refl (writes.3 (subst IsSome (sym found) refl)).0,
-      written_awaited _ c.args.number v w _ _ found (omega arith) (writes.3 (subst IsSome (sym found) refl)).0 c.self.invariant.2,
-    )
+    let items = c.self.inside.leases.items in
+    let ls = map stored_lease items in
+    let place = c.in-Some.place in
+    let at : StandsAt c.args.number ls place = subst (λ (xs : List StoredLease). StandsAt c.args.number xs place) (sym c.self.view_is) c.in-Some.ensures.at in
+    let within = at.0 in
+    let below : place < length items = omega (arith, within, length-map items stored_lease) in
+    let v = c.in-Some-get_mut.lease.now in
+    let there : (d : StoredLease) → get_or ls place d ≡ stored_lease v = λ d. read_at items place v below c.in-Some-get_mut.ensures.value d in
+    let w : HeldLease = record { number = v.number; id = v.id; renewed = v.renewed; tables = c.reserve.new.self } in
+    subst (λ (xs : List StoredLease). RiseByNumber xs × AreOfWorkers (number_of nat_eq c.self.inside.of_worker) xs × AreNotBefore c.self.inside.earliest xs) (sym (map-set stored_lease items place w))
+    (kept_by_set (number_of nat_eq c.self.inside.of_worker) c.self.inside.earliest ls place (stored_lease v) (stored_lease w) within there refl refl (omega arith) c.self.invariant)
 
 pub returns-clause-shown : goal.returns-clause-shown
 returns-clause-shown c =
-    let n = c.args.number in
-    let v = c.in-Some.lease.now in
-    let w : HeldLease = record { id = v.id; renewed = v.renewed; tables = c.reserve.new.self } in
-    let es = c.self.inside.leases.entries in
-    let place = set_place n v w es (sym c.get_mut.ensures.value ∙ ap option_copied_mut c.in-Some.is) in
-    let writes = c.get_mut.follows.holds w in
-    ap (map shown) (ap (map stored_lease) writes.0 ∙ place.3)
-    ∙ (map-set_same shown (map stored_lease es) place.0 (stored_lease (n, w)) (stored_lease (n, w)) (ap (λ (ts : List Packed). (as_lease (stored_lease (n, v)), ts)) c.reserve.ensures.keys ∙ ap shown (sym place.2)) ∙ ap (map shown) c.self.view_is)
+    let items = c.self.inside.leases.items in
+    let ls = map stored_lease items in
+    let place = c.in-Some.place in
+    let at : StandsAt c.args.number ls place = subst (λ (xs : List StoredLease). StandsAt c.args.number xs place) (sym c.self.view_is) c.in-Some.ensures.at in
+    let within = at.0 in
+    let below : place < length items = omega (arith, within, length-map items stored_lease) in
+    let v = c.in-Some-get_mut.lease.now in
+    let there : (d : StoredLease) → get_or ls place d ≡ stored_lease v = λ d. read_at items place v below c.in-Some-get_mut.ensures.value d in
+    let w : HeldLease = record { number = v.number; id = v.id; renewed = v.renewed; tables = c.reserve.new.self } in
+    ap (map shown) (map-set stored_lease items place w)
+    ∙ (map-set_same shown ls place (stored_lease w) (stored_lease w) (ap (λ (ts : List Packed). (as_lease (stored_lease v), ts)) c.reserve.ensures.keys ∙ ap shown (sym (there (stored_lease w)))) ∙ ap (map shown) c.self.view_is)
 
 pub returns-clause-ok : goal.returns-clause-ok
 returns-clause-ok c =
-    let n = c.args.number in
-    let v = c.in-Some.lease.now in
-    let w : HeldLease = record { id = v.id; renewed = v.renewed; tables = c.reserve.new.self } in
-    let found = sym c.get_mut.ensures.value ∙ ap option_copied_mut c.in-Some.is in
-    let writes = c.get_mut.follows.holds w in
-    if_ok c.reserve.result (λ room. room_one n w (c.get_mut.follows.lender w) writes.4 (writes.3 (subst IsSome (sym found) refl)).1 room) c.reserve.ensures.ok
+    let items = c.self.inside.leases.items in
+    let ls = map stored_lease items in
+    let place = c.in-Some.place in
+    let at : StandsAt c.args.number ls place = subst (λ (xs : List StoredLease). StandsAt c.args.number xs place) (sym c.self.view_is) c.in-Some.ensures.at in
+    let within = at.0 in
+    let below : place < length items = omega (arith, within, length-map items stored_lease) in
+    let v = c.in-Some-get_mut.lease.now in
+    let there : (d : StoredLease) → get_or ls place d ≡ stored_lease v = λ d. read_at items place v below c.in-Some-get_mut.ensures.value d in
+    let w : HeldLease = record { number = v.number; id = v.id; renewed = v.renewed; tables = c.reserve.new.self } in
+    let kept = kept_by_set (number_of nat_eq c.self.inside.of_worker) c.self.inside.earliest ls place (stored_lease v) (stored_lease w) within there refl refl (omega arith) c.self.invariant in
+    let number : v.number ≡ c.args.number = sym (ap (λ (l : StoredLease). l.number) (there (stored_lease v))) ∙ at.1 (stored_lease v) in
+    if_ok c.reserve.result (λ (room : child_limit ≤ (stored_lease w).room). subst (HasRoomForChildren c.args.number) (sym (map-set stored_lease items place w))
+    (room_one c.args.number (set ls place (stored_lease w)) (stored_lease w) kept.0 (set_there ls place (stored_lease w) within) number room)) c.reserve.ensures.ok

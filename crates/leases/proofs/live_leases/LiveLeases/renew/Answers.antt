@@ -1,52 +1,58 @@
-use Rattle.std.proofs.Common.{◌≤◌, arith, refl, sym, ◌∙◌, ap, subst, List, Contains, IsSome, map}
-use Rattle.std.specs.Option.{option_copied_mut, is_some}
-use Rattle.leases.specs.Leases.{is_live}
-use Rattle.leases.specs.inside.Stored.{StoredLease, stored_lease, as_lease}
+use Rattle.std.proofs.Common.{◌≡◌, ◌<◌, ◌≤◌, List, Contains, get_or, length, map, nat_eq, sym, ◌∙◌, ap, subst, arith}
+use Rattle.std.proofs.Math.ListN.{set}
+use Rattle.std.proofs.lemmas.List.{length-map, map-set}
+use Rattle.indexmap.specs.IndexMap.{get as number_of}
+use Rattle.leases.specs.inside.Stored.{AreNotBefore, AreOfWorkers, RiseByNumber, StandsAt, StoredLease, stored_lease}
 use Rattle.leases.specs.inside.Children.{Renews, RenewsOne}
-use Rattle.leases.proofs.LiveLaws.{lives_is, found_member, set_place, workers_same}
-use Rattle.leases.proofs.DeadlineLaws.{written_awaited}
+use Rattle.leases.proofs.Listing.{kept_by_set, read_at}
 use Rattle.leases.proofs.live_leases.LiveLeases.renew.Goals as goal
 
 pub renew_lease-requires-clause-room : goal.renew_lease-requires-clause-room
 renew_lease-requires-clause-room c =
-    let n = c.args.number in
-    let v = c.in-Some.lease.now in
-    c.requires.room (stored_lease (n, v))
-    (subst (λ (ls : List StoredLease). Contains ls (stored_lease (n, v))) c.self.view_is (found_member n v c.self.inside.leases.entries (sym c.get_mut.ensures.value ∙ ap option_copied_mut c.in-Some.is))) refl
-
-pub unreachable-requires : goal.unreachable-requires
-unreachable-requires c =
-    let none = ap is_some (sym c.get_mut.ensures.value ∙ ap option_copied_mut c.in-None.is) in
-    let lives = lives_is c.args.number c.self.inside.leases.entries ∙ (ap (λ (ls : List StoredLease). is_live (map as_lease ls) c.args.number) c.self.view_is ∙ c.requires.lives) in
-    absurd (cc)
+    let items = c.self.inside.leases.items in
+    let ls = map stored_lease items in
+    let place = c.in-Some.place in
+    let at : StandsAt c.args.number ls place = subst (λ (xs : List StoredLease). StandsAt c.args.number xs place) (sym c.self.view_is) c.in-Some.ensures.at in
+    let within = at.0 in
+    let below : place < length items = omega (arith, within, length-map items stored_lease) in
+    let v = c.in-Some-get_mut.lease.now in
+    let there : (d : StoredLease) → get_or ls place d ≡ stored_lease v = λ d. read_at items place v below c.in-Some-get_mut.ensures.value d in
+    let number : v.number ≡ c.args.number = sym (ap (λ (l : StoredLease). l.number) (there (stored_lease v))) ∙ at.1 (stored_lease v) in
+    c.requires.room (stored_lease v) (subst (λ (xs : List StoredLease). Contains xs (stored_lease v)) c.self.view_is (place, within, there (stored_lease v))) number
 
 pub invariant_of-self : goal.invariant_of-self
 invariant_of-self c =
-    let v = c.in-Some.lease.now in
+    let items = c.self.inside.leases.items in
+    let ls = map stored_lease items in
+    let place = c.in-Some.place in
+    let at : StandsAt c.args.number ls place = subst (λ (xs : List StoredLease). StandsAt c.args.number xs place) (sym c.self.view_is) c.in-Some.ensures.at in
+    let within = at.0 in
+    let below : place < length items = omega (arith, within, length-map items stored_lease) in
+    let v = c.in-Some-get_mut.lease.now in
+    let there : (d : StoredLease) → get_or ls place d ≡ stored_lease v = λ d. read_at items place v below c.in-Some-get_mut.ensures.value d in
     let w = c.renew_lease.new.lease in
-    let found = sym c.get_mut.ensures.value ∙ ap option_copied_mut c.in-Some.is in
     let now = c.renew_lease.ensures.renewed in
-    let before = c.requires.ahead (stored_lease (c.args.number, v)) (subst (λ (ls : List StoredLease). Contains ls (stored_lease (c.args.number, v))) c.self.view_is (found_member c.args.number v c.self.inside.leases.entries found)) in
+    let before = c.requires.ahead (stored_lease v) (subst (λ (xs : List StoredLease). Contains xs (stored_lease v)) c.self.view_is (place, within, there (stored_lease v))) in
     let later : v.renewed ≤ w.renewed = omega (arith, now, before) in
-    let writes = c.get_mut.follows.holds w in (
-      writes.4,
-      workers_same _ _ _ c.args.number v w c.self.invariant.1 found c.renew_lease.ensures.id (writes.3 (subst IsSome (sym found) refl)).0,
-      written_awaited _ c.args.number v w _ _ found later (writes.3 (subst IsSome (sym found) refl)).0 c.self.invariant.2,
-    )
+    subst (λ (xs : List StoredLease). RiseByNumber xs × AreOfWorkers (number_of nat_eq c.self.inside.of_worker) xs × AreNotBefore c.self.inside.earliest xs) (sym (map-set stored_lease items place w))
+    (kept_by_set (number_of nat_eq c.self.inside.of_worker) c.self.inside.earliest ls place (stored_lease v) (stored_lease w) within there c.renew_lease.ensures.number c.renew_lease.ensures.id later c.self.invariant)
 
 pub returns : goal.returns
 returns c =
-    let n = c.args.number in
-    let v = c.in-Some.lease.now in
+    let items = c.self.inside.leases.items in
+    let ls = map stored_lease items in
+    let place = c.in-Some.place in
+    let at : StandsAt c.args.number ls place = subst (λ (xs : List StoredLease). StandsAt c.args.number xs place) (sym c.self.view_is) c.in-Some.ensures.at in
+    let within = at.0 in
+    let below : place < length items = omega (arith, within, length-map items stored_lease) in
+    let v = c.in-Some-get_mut.lease.now in
+    let there : (d : StoredLease) → get_or ls place d ≡ stored_lease v = λ d. read_at items place v below c.in-Some-get_mut.ensures.value d in
     let w = c.renew_lease.new.lease in
-    let found = sym c.get_mut.ensures.value ∙ ap option_copied_mut c.in-Some.is in
-    let place = set_place n v w c.self.inside.leases.entries found in
-    let writes = c.get_mut.follows.holds w in
-    subst (λ (ls : List StoredLease). RenewsOne c.args.board.now c.args.t.now n c.args.moment ls (map stored_lease (c.get_mut.follows.lender w).entries) c.args.came.now.entries c.renew_lease.new.came.entries) c.self.view_is (
-      place.0,
-      stored_lease (n, w),
-      place.1,
-      ap (λ (l : StoredLease). l.number) (sym place.2),
-      ap (map stored_lease) writes.0 ∙ place.3,
-      subst (λ (l : StoredLease). Renews c.args.board.now c.args.t.now c.args.moment l (stored_lease (n, w)) c.args.came.now.entries c.renew_lease.new.came.entries) (sym place.2) c.renew_lease.ensures,
+    subst (λ (xs : List StoredLease). RenewsOne c.args.board.now c.args.t.now c.args.number c.args.moment xs (map stored_lease (set items place w)) c.args.came.now.entries c.renew_lease.new.came.entries) c.self.view_is (
+      place,
+      stored_lease w,
+      within,
+      sym (at.1 (stored_lease w)),
+      map-set stored_lease items place w,
+      subst (λ (l : StoredLease). Renews c.args.board.now c.args.t.now c.args.moment l (stored_lease w) c.args.came.now.entries c.renew_lease.new.came.entries) (sym (there (stored_lease w))) c.renew_lease.ensures,
     )

@@ -1,61 +1,42 @@
-use Rattle.std.proofs.Common.{◌++◌, ◌∷◌, [], nat_eq, sym, ◌∙◌, ap, subst, List, Some, None, cond, map, ℕ, All, ◌<◌}
-use Rattle.std.proofs.lemmas.List.{map-append}
-use Rattle.std.specs.Ordering.{nat_cmp}
-use Rattle.std.specs.BTreeMap.{get, is_at}
-use Rattle.indexmap.specs.IndexMap.{get as number_of}
-use Rattle.leases.specs.declared.held_leases.HeldLease.{HeldLease}
+use Rattle.std.proofs.Common.{◌≡◌, ◌<◌, ◌++◌, ◌∷◌, [], ℕ, All, List, Option, Some, cond, map, nat_eq, not, sym, ◌∙◌, ap, subst}
 use Rattle.std.specs.Map.{lookup}
-use Rattle.leases.specs.inside.Deadlines.{AreAwaited}
-use Rattle.std.specs.declared.cmp.Reverse.{Reverse}
-use Rattle.leases.specs.inside.Stored.{StoredLease, stored_lease, without, is_numbered, AreOfWorkers, IsOwn}
-use Rattle.leases.proofs.LiveLaws.{at_number, added_last, without_last, fresh_at, not_own, owned, own_one, workers_replaced}
-use Rattle.leases.proofs.DeadlineLaws.{replaced_awaited}
+use Rattle.std.proofs.lemmas.List.{map-append}
+use Rattle.std.proofs.lemmas.List.Elements.{All-filter}
+use Rattle.leases.specs.declared.held_leases.HeldLease.{HeldLease}
+use Rattle.leases.specs.inside.Stored.{AreNotBefore, AreOfWorkers, IsOwn, RiseByNumber, StoredLease, is_numbered, stored_lease, without}
+use Rattle.leases.proofs.LiveLaws.{rise_last, still_rise, workers_replaced}
+use Rattle.leases.proofs.Moments.{fewer_not_before, one_more_not_before}
 use Rattle.leases.proofs.live_leases.LiveLeases.replace.Goals as goal
 
 pub invariant_of-self : goal.invariant_of-self
 invariant_of-self c =
-    (c.self.invariant.0, subst (λ (es : List (ℕ × ℕ)). AreOfWorkers (λ id. lookup (nat_eq id) es) (get nat_cmp c.self.inside.leases)) (sym c.reserve.ensures.entries) c.self.invariant.1, c.self.invariant.2)
+    subst (λ (items : List HeldLease). RiseByNumber (map stored_lease items) × AreOfWorkers (λ id. lookup (nat_eq id) c.self.inside.of_worker.entries) (map stored_lease items) × AreNotBefore c.self.inside.earliest (map stored_lease items))
+    (sym c.reserve.ensures.items) c.self.invariant
 
-pub invariant_of-self-in_err-reserve_one : goal.invariant_of-self-in_err-reserve_one
-invariant_of-self-in_err-reserve_one c = (
-  c.self.invariant.0,
-  subst (λ (es : List (ℕ × ℕ)). AreOfWorkers (λ id. lookup (nat_eq id) es) (get nat_cmp c.self.inside.leases)) (sym c.reserve.ensures.entries) c.self.invariant.1,
-  subst (λ (es : List (Reverse (ℕ × ℕ))). AreAwaited es (get nat_cmp c.self.inside.leases)) (sym c.reserve_one.ensures.entries) c.self.invariant.2,
-)
-
-pub invariant_of-self-in_err-insert : goal.invariant_of-self-in_err-insert
-invariant_of-self-in_err-insert c = (
-  c.insert.ensures.ordered,
-  subst (λ (es : List (ℕ × HeldLease)). AreOfWorkers (number_of nat_eq c.reserve.new.self) (λ n. lookup (is_at (nat_cmp n)) es)) (sym c.in_err-insert.ensures.err)
-      (subst (λ (es : List (ℕ × ℕ)). AreOfWorkers (λ id. lookup (nat_eq id) es) (get nat_cmp c.self.inside.leases)) (sym c.reserve.ensures.entries) c.self.invariant.1),
-  subst (λ (es : List (ℕ × HeldLease)). AreAwaited c.reserve_one.new.self.entries (λ n. lookup (is_at (nat_cmp n)) es)) (sym c.in_err-insert.ensures.err)
-      (subst (λ (es : List (Reverse (ℕ × ℕ))). AreAwaited es (get nat_cmp c.self.inside.leases)) (sym c.reserve_one.ensures.entries) c.self.invariant.2),
-)
+pub invariant_of-self-in_err-reserve-2 : goal.invariant_of-self-in_err-reserve-2
+invariant_of-self-in_err-reserve-2 c =
+    subst (λ (items : List HeldLease). RiseByNumber (map stored_lease items) × AreOfWorkers (λ id. lookup (nat_eq id) c.reserve-2.new.self.entries) (map stored_lease items) × AreNotBefore c.self.inside.earliest (map stored_lease items))
+    (sym c.reserve.ensures.items) (
+      c.self.invariant.0,
+      subst (λ (es : List (ℕ × ℕ)). AreOfWorkers (λ id. lookup (nat_eq id) es) (map stored_lease c.self.inside.leases.items)) (sym c.reserve-2.ensures.entries) c.self.invariant.1,
+      c.self.invariant.2,
+    )
 
 pub invariant_of-self-2 : goal.invariant_of-self-2
 invariant_of-self-2 c =
-    let m = c.self.inside.leases in
-    let n = c.args.number in
-    let v = c.args.lease in
-    let last = subst (All (λ (l : StoredLease). l.number < n)) (sym c.self.view_is) c.requires.last in
-    let own = subst (IsOwn v.id c.args.own) (sym c.self.view_is) c.requires.own in (
-      c.take_out.ensures.ordered,
-      workers_replaced (number_of nat_eq c.self.inside.of_worker) _ (get nat_cmp m) _ c.args.own n v c.self.invariant.1 (fresh_at n m.entries last)
-          (own_one v.id c.args.own m own) (owned v.id c.args.own m own) (not_own v.id c.args.own n (map stored_lease m.entries) own last)
-          (λ q. c.take_out.ensures.at q ∙ ap (cond (is_numbered c.args.own q) None) (c.in_ok-insert.ensures.updates.0 q ∙ ap (λ b. cond b (Some v) (get nat_cmp m q)) (at_number n q)))
-          (λ q. c.in-Ok.ensures.updates.0 q ∙ ap (λ (es : List (ℕ × ℕ)). cond (nat_eq v.id q) (Some n) (lookup (nat_eq q) es)) c.reserve.ensures.entries),
-      replaced_awaited c.reserve_one.new.self.entries c.push.new.self.entries c.args.own n v (get nat_cmp m) _ c.push.ensures.entries
-          (λ q. c.take_out.ensures.at q ∙ ap (cond (is_numbered c.args.own q) None) (c.in_ok-insert.ensures.updates.0 q ∙ ap (λ b. cond b (Some v) (get nat_cmp m q)) (at_number n q)))
-          (subst (λ (es : List (Reverse (ℕ × ℕ))). AreAwaited es (get nat_cmp c.self.inside.leases)) (sym c.reserve_one.ensures.entries) c.self.invariant.2),
+    let ls = map stored_lease c.self.inside.leases.items in
+    let v = stored_lease c.args.lease in
+    let own = c.args.own in
+    let last = subst (All (λ (l : StoredLease). l.number < v.number)) (sym c.self.view_is) c.requires.last in
+    let is_own = subst (IsOwn v.id own) (sym c.self.view_is) c.requires.own in
+    let next : ℕ → Option ℕ = λ id. lookup (nat_eq id) c.insert.new.self.entries in
+    let is : map stored_lease c.push_back_reserved.new.self.items ≡ without own ls ++ (v ∷ []) =
+    ap (map stored_lease) c.push_back_reserved.ensures.items ∙ (map-append stored_lease c.take_out.new.leases.items (c.args.lease ∷ [])
+    ∙ ap (λ (xs : List StoredLease). xs ++ (v ∷ [])) (c.take_out.ensures.kept ∙ ap (λ (items : List HeldLease). without own (map stored_lease items)) c.reserve.ensures.items)) in
+    subst (λ (xs : List StoredLease). RiseByNumber xs × AreOfWorkers next xs × AreNotBefore c.min-self-inside.result xs) (sym is) (
+      rise_last (without own ls) v (All-filter (λ l. not (is_numbered own l.number)) (λ (l : StoredLease). l.number < v.number) ls last) (still_rise own ls c.self.invariant.0),
+      workers_replaced (λ id. lookup (nat_eq id) c.self.inside.of_worker.entries) next ls own v c.self.invariant.1 is_own
+          (λ q. c.in-Ok.ensures.updates.0 q ∙ ap (λ (es : List (ℕ × ℕ)). cond (nat_eq v.id q) (Some v.number) (lookup (nat_eq q) es)) c.reserve-2.ensures.entries),
+      subst (λ (m : ℕ). AreNotBefore m (without own ls ++ (v ∷ []))) (sym c.min-self-inside.ensures)
+          (one_more_not_before c.self.inside.earliest (without own ls) v (fewer_not_before own c.self.inside.earliest ls c.self.invariant.2)),
     )
-
-pub returns-clause-ok : goal.returns-clause-ok
-returns-clause-ok c =
-    let es = c.self.inside.leases.entries in
-    let n = c.args.number in
-    let v = c.args.lease in
-    let last = subst (All (λ (l : StoredLease). l.number < n)) (sym c.self.view_is) c.requires.last in
-    let own = subst (IsOwn v.id c.args.own) (sym c.self.view_is) c.requires.own in
-    c.take_out.ensures.kept ∙ (ap (λ es. without c.args.own (map stored_lease es)) (c.in_ok-insert.ensures.entries ∙ added_last n v es last)
-    ∙ (ap (without c.args.own) (map-append stored_lease es ((n, v) ∷ [])) ∙ (without_last c.args.own (map stored_lease es) (stored_lease (n, v)) (not_own v.id c.args.own n (map stored_lease es) own last)
-    ∙ ap (λ ls. without c.args.own ls ++ (stored_lease (n, v) ∷ [])) c.self.view_is)))

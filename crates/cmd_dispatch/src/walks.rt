@@ -6,7 +6,7 @@ use crate::late::Late;
 use cert::Decider;
 use cmd_json::LinesOrJson;
 use cmd_options::{Durability, Ended, LedgerFile, Outcome, Saving, Walking, ended_by};
-use cmd_walk::cmd_walk;
+use cmd_parts::cmd_walk;
 use files::{Disk, Files, ledger_at, lock_ledger};
 use find_search::{SavingDecider, decider_for};
 use machine_text::Table;

@@ -5,8 +5,8 @@ use Rattle.cert.specs.Claim.{Recorded}
 use Rattle.ledger.specs.Contents.{Contents, IsOpenOn}
 use Rattle.ledger.specs.Tally.{AreAll}
 use Rattle.ledger.specs.declared.left.Left.TheVariants.{Nothing}
-use Rattle.parts.specs.Parts.{joined_with}
-use Rattle.parts.specs.Whole.{Collected, IsWhole}
+use Rattle.totals.specs.Parts.{joined_with}
+use Rattle.totals.specs.Whole.{Collected, IsWhole}
 use Rattle.cmd_options.specs.declared.ended.Ended.{Ended}
 use Rattle.cmd_options.specs.declared.outcome.Outcome.{Outcome}
 use Rattle.cmd_page.specs.Page.{IsPage, IsPageWith}

@@ -1,8 +1,8 @@
 // The page of a folder.
 ghost use Rattle.std.specs.Prelude.{◌^◌, ◌<◌, IfErr, IfOk, List, None, length};
 ghost use Rattle.ledger.specs.Contents.{Contents};
-ghost use Rattle.parts.specs.Parts.{joined_with};
-ghost use Rattle.parts.specs.Whole.{IsWhole};
+ghost use Rattle.totals.specs.Parts.{joined_with};
+ghost use Rattle.totals.specs.Whole.{IsWhole};
 ghost use Rattle.cmd_parts.specs.AtPaths.{finds_at};
 ghost use Rattle.cmd_options.specs.Ends.{PrintsNothing};
 ghost use Rattle.cmd_parts.specs.Join.{WarnsFirst};
@@ -16,9 +16,9 @@ use crate::ledger_list::list_sum;
 use cmd_options::{Ended, Outcome};
 use cmd_parts::{PartLedgers, PartsAt, gather, open_tables, tell_whole};
 use files::Files;
-use parts::Whole;
 use std::alloc::Global;
 use std::io::Write;
+use totals::Whole;
 
 // Writes the page of the trunk in a folder and of the parts beside it, under a title, with the SHA-256 of the list of its
 // ledgers, which are read once more for that. What is wrong with the trunk or a part is said on `faults` behind its path,

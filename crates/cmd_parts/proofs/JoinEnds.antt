@@ -9,7 +9,7 @@ use Rattle.ledger.specs.Tally.{AreAll}
 use Rattle.ledger.specs.declared.left.Left.{Left}
 use Rattle.cmd_options.specs.declared.ended.Ended.{Ended}
 use Rattle.cmd_options.specs.declared.ended.Ended.TheVariants.{Stream}
-use Rattle.parts.specs.Whole.{Collected}
+use Rattle.totals.specs.Whole.{Collected}
 use Rattle.cmd_options.specs.Ends.{PrintsNothing}
 use Rattle.cmd_parts.specs.Join.{Findings, HoldsTree, IsReadAt, SaysFirst, left_line}
 use Rattle.cmd_parts.specs.Split.{path_within}

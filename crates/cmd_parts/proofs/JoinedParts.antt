@@ -19,9 +19,9 @@ use Rattle.cmd_options.specs.declared.outcome.Outcome.{Outcome}
 use Rattle.ledger.proofs.Apart.{first_member, first_or_later, later_member}
 use Rattle.ledger.proofs.LinesTaken.{joined-append}
 use Rattle.wire.specs.Device.{grown}
-use Rattle.parts.specs.Parts.{joined_with}
-use Rattle.parts.specs.Whole.{AddGives, Collected, IsWhole}
-use Rattle.parts.proofs.ManyParts.{joined_more}
+use Rattle.totals.specs.Parts.{joined_with}
+use Rattle.totals.specs.Whole.{AddGives, Collected, IsWhole}
+use Rattle.totals.proofs.ManyParts.{joined_more}
 use Rattle.cmd_parts.specs.Join.{AreMet, Findings, HoldsTree, IsMet, IsMetAs, IsMetIn, IsReadAt, TellsAll, TellsParts, counted_part, is_silent, left_line, line_behind, record_lines}
 use Rattle.cmd_parts.specs.Split.{path_within}
 use Rattle.cmd_parts.specs.Gather.{IsGathered}

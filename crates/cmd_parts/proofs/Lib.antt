@@ -14,3 +14,5 @@ pub mod Extending
 pub mod Kept
 pub mod Parts
 pub mod Printing
+pub mod Answered
+pub mod Reports

@@ -12,8 +12,8 @@ use Rattle.ledger.specs.Contents.{Contents, IsOpenOn}
 use Rattle.ledger.specs.Records.{same_table}
 use Rattle.ledger.specs.Tally.{AreAll}
 use Rattle.ledger.specs.declared.left.Left.{Left}
-use Rattle.parts.specs.Whole.{AddGives, Collected, IsWhole}
-use Rattle.parts.proofs.Roots.{put_last}
+use Rattle.totals.specs.Whole.{AddGives, Collected, IsWhole}
+use Rattle.totals.proofs.Roots.{put_last}
 use Rattle.cmd_ledgers.specs.LedgerReport.{EndsLedger}
 use Rattle.cmd_options.specs.declared.ended.Ended.{Ended}
 use Rattle.cmd_options.specs.declared.ended.Ended.TheVariants.{BadHeader, WrongRoot}

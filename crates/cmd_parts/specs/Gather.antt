@@ -5,8 +5,8 @@ use Rattle.cert.specs.Claim.{Recorded}
 use Rattle.ledger.specs.Contents.{Contents}
 use Rattle.ledger.specs.LedgerText.{ledger_text}
 use Rattle.wire.specs.Device.{grown}
-use Rattle.parts.specs.Parts.{joined_with}
-use Rattle.parts.specs.Whole.{Collected, IsWhole}
+use Rattle.totals.specs.Parts.{joined_with}
+use Rattle.totals.specs.Whole.{Collected, IsWhole}
 use Rattle.cmd_parts.specs.Join.{Findings, HoldsTree, is_silent}
 
 -- it is the whole of what a folder holds, the one ledger of all stands behind what stood in its place, and all are counted

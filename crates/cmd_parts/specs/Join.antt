@@ -23,7 +23,7 @@ use Rattle.cmd_options.specs.declared.ended.Ended.{Ended}
 use Rattle.cmd_options.specs.declared.ended.Ended.TheVariants.{BadHeader, WrongRoot}
 use Rattle.cmd_options.specs.declared.outcome.Outcome.{Outcome}
 use Rattle.cmd_options.specs.declared.outcome.Outcome.TheVariants.{Refused}
-use Rattle.parts.specs.Parts.{AreParts, joined_with}
+use Rattle.totals.specs.Parts.{AreParts, joined_with}
 use Rattle.cmd_parts.specs.Split.{path_within}
 
 -- the lines of records in a ledger of version 2

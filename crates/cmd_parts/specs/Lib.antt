@@ -9,3 +9,4 @@ pub mod Ledgers
 pub mod Stream
 pub mod Tables
 pub mod Look
+pub mod Walking

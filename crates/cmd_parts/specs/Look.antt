@@ -11,7 +11,7 @@ use Rattle.ledger.specs.Held.{IsHoldout}
 use Rattle.ledger.specs.Records.{claim_in}
 use Rattle.ledger.specs.Tally.{AreAll}
 use Rattle.ledger.specs.declared.left.Left.{Left}
-use Rattle.parts.specs.Parts.{joined_with}
+use Rattle.totals.specs.Parts.{joined_with}
 use Rattle.cmd_options.specs.declared.outcome.Outcome.{Outcome}
 use Rattle.cmd_options.specs.declared.outcome.Outcome.TheVariants.{Accepted}
 use Rattle.cmd_lines.specs.Stream.{AnswersStream}

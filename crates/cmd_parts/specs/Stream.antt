@@ -10,7 +10,7 @@ use Rattle.ledger.specs.Contents.{Contents, IsBoard, IsOpenOn}
 use Rattle.ledger.specs.LedgerText.{ReadsIn}
 use Rattle.ledger.specs.Tally.{AreAll}
 use Rattle.ledger.specs.declared.left.Left.{Left}
-use Rattle.parts.specs.Parts.{AreParts}
+use Rattle.totals.specs.Parts.{AreParts}
 use Rattle.cmd_ledgers.specs.LedgerReport.{EndsLedger}
 use Rattle.cmd_options.specs.Ends.{PrintsNothing}
 use Rattle.cmd_options.specs.Outcome.{ended_line}

@@ -2,6 +2,7 @@
 pub mod Looking
 pub mod Taking
 pub mod Joining
+pub mod Walking
 use Rattle.std.specs.Prelude.{◌≡◌, ℕ, Bool, List, [], ◌++◌, Option, None, Some, Ok, nat_lt}
 use Rattle.std.specs.Io.KnownBytes.{Appends}
 use Rattle.machine_text.specs.Packed.{Packed}
@@ -9,8 +10,8 @@ use Rattle.cert.specs.Claim.{Recorded}
 use Rattle.ledger.specs.Contents.{Contents}
 use Rattle.ledger.specs.LedgerText.{ledger_text}
 use Rattle.wire.specs.Device.{grown}
-use Rattle.parts.specs.Parts.{joined_with}
-use Rattle.parts.specs.Whole.{AddGives, Collected, IsWhole}
+use Rattle.totals.specs.Parts.{joined_with}
+use Rattle.totals.specs.Whole.{AddGives, Collected, IsWhole}
 use Rattle.cmd_parts.specs.Join.{AreMet, Findings, is_silent, record_lines}
 use Rattle.cmd_parts.specs.Settling.{filled_count}
 

@@ -9,8 +9,8 @@ ghost use Rattle.cmd_options.specs.declared.ended.Ended.{Ended as Ends};
 ghost use Rattle.cmd_options.specs.Ends.{EndsTold, PrintsNothing};
 ghost use Rattle.cmd_ledgers.specs.Told.{IsToldOf};
 ghost use Rattle.wire.specs.Device.{grown};
-ghost use Rattle.parts.specs.Parts.{joined_with};
-ghost use Rattle.parts.specs.Whole.{AddGives, IsWhole};
+ghost use Rattle.totals.specs.Parts.{joined_with};
+ghost use Rattle.totals.specs.Whole.{AddGives, IsWhole};
 ghost use Rattle.files.specs.Paths.{IsBlank, IsKeptBut};
 ghost use Rattle.cmd_parts.specs.AtPaths.{JoinsAt, CollectsAt, finds_at};
 ghost use Rattle.cmd_parts.specs.Split.{path_within};
@@ -27,10 +27,10 @@ use files::{Files, Opened, lock_ledger, made_for, put_at};
 use kind_evidence::NoMemory;
 use ledger::{Board, Left, Status};
 use machine_text::Table;
-use parts::{PartFault, Whole};
 use std::alloc::Global;
 use std::io::{Read, Write};
 use text::append_number;
+use totals::{PartFault, Whole};
 
 /// Prints the report of the trunk in a folder and of the parts beside it, in a form: the report of one ledger that
 /// holds the records of all. Where that is asked for, it writes that ledger too, in a new file beside it, `.new`, which

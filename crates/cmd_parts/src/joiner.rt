@@ -12,9 +12,9 @@ use cmd_options::Ended;
 use indexmap::IndexSet;
 use ledger::{Board, Left};
 use machine_text::Table;
-use parts::{PartFault, Whole};
 use std::alloc::Global;
 use std::io::Write;
+use totals::{PartFault, Whole};
 
 // The trunk that has come first, with the parts that were added to it.
 #[derive(Drop)]

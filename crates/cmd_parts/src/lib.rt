@@ -1,11 +1,12 @@
 //! The commands of `bb` that cut a tree into ledgers, work those off, and tell of all of them together: `split`, `settle`
-//! and `join`, of a folder or of a stream; and `look`, what a ledger or a folder has recorded of given tables.
+//! and `join`, of a folder or of a stream; `look`, what a ledger or a folder has recorded of given tables; and `walk`, by which a
+//! tree is walked to its end in one process and told of, without a record kept or a ledger written.
 //!
 //! `specs/Settling` says what becomes of a board and its ledger while open tables are settled, `specs/Settle` what a
 //! ledger is that is settled whole, `specs/Split` what a tree is that is split into a trunk and its parts, `specs/Join` what
 //! is told of them together, `specs/Gather` what is gathered before that, `specs/AtPaths` what all that is where files
 //! stand. `specs/Ledgers` says which ledgers a text has, `specs/Stream` what is told of those of a stream. `specs/Look` says
-//! what is said of a table by a board and by a folder. `specs/inside` and `proofs` are for the code alone.
+//! what is said of a table by a board and by a folder, `specs/Walking` what is printed of a walk. `specs/inside` and `proofs` are for the code alone.
 #![tactic(auto)]
 
 mod answer;
@@ -32,6 +33,7 @@ mod settling;
 mod split;
 mod stream_loading;
 mod trunk;
+mod walk;
 
 pub use collector::{Collector, Nowhere, OneLedger};
 pub use folder::{Folder, FolderAt, begin_part, begin_parts, part_path, trunk_path};
@@ -44,3 +46,4 @@ pub use settle_at::settle_ledger_at;
 pub use settling::{settle_below, settle_board};
 pub use split::{cmd_split, split_off};
 pub use trunk::grow_trunk;
+pub use walk::cmd_walk;

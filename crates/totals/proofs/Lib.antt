@@ -8,3 +8,8 @@ pub mod Fitting
 pub mod One
 pub mod Steps
 pub mod Walks
+pub mod ManyParts
+pub mod Wholes
+pub mod Agreeing
+pub mod Roots
+pub mod Added

@@ -1,3 +1,5 @@
 pub mod Totals
 pub mod Walk
+pub mod Parts
+pub mod Whole
 pub mod inside

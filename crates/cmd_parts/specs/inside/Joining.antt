@@ -7,8 +7,8 @@ use Rattle.indexmap.specs.IndexSet.{insert_key}
 use Rattle.ledger.specs.Contents.{Contents}
 use Rattle.ledger.specs.Records.{same_table}
 use Rattle.ledger.specs.declared.left.Left.{Left}
-use Rattle.parts.specs.Whole.{AddGives, Collected, IsWhole}
-use Rattle.parts.specs.declared.part_fault.PartFault.TheVariants.{AddedBefore, NotOpen}
+use Rattle.totals.specs.Whole.{AddGives, Collected, IsWhole}
+use Rattle.totals.specs.declared.part_fault.PartFault.TheVariants.{AddedBefore, NotOpen}
 use Rattle.cmd_parts.specs.Join.{is_silent, left_line, line_behind}
 use Rattle.cmd_parts.specs.Stream.{AreMissed, IsLoadedAs, IsMissed, IsRefusedAs}
 use Rattle.cmd_parts.specs.declared.joiner.Joiner.{Joiner}

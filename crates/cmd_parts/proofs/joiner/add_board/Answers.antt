@@ -4,9 +4,9 @@ use Rattle.indexmap.specs.IndexSet.{insert_key}
 use Rattle.machine_text.specs.Packed.{Packed}
 use Rattle.machine_text.specs.Text.{text_of}
 use Rattle.ledger.specs.Records.{same_table}
-use Rattle.parts.specs.Whole.{AddGives}
-use Rattle.parts.specs.declared.part_fault.PartFault.{PartFault}
-use Rattle.parts.specs.declared.part_fault.PartFault.TheVariants.{AddedBefore, NotOpen}
+use Rattle.totals.specs.Whole.{AddGives}
+use Rattle.totals.specs.declared.part_fault.PartFault.{PartFault}
+use Rattle.totals.specs.declared.part_fault.PartFault.TheVariants.{AddedBefore, NotOpen}
 use Rattle.cmd_parts.specs.inside.Joining.{AddsBoard}
 use Rattle.cmd_parts.proofs.Telling.{counted_so, said_so}
 use Rattle.cmd_parts.proofs.joiner.add_board.Goals as goal

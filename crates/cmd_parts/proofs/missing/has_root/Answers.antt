@@ -1,5 +1,5 @@
 use Rattle.ledger.specs.Records.{same_table}
-use Rattle.parts.proofs.Roots.{is_root}
+use Rattle.totals.proofs.Roots.{is_root}
 use Rattle.cmd_parts.proofs.missing.has_root.Goals as goal
 
 pub returns : goal.returns

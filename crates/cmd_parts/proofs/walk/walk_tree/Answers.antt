@@ -1,0 +1,35 @@
+use Rattle.std.proofs.Common.{Ok, sym, subst}
+use Rattle.law_turing.specs.Halting.{HaltsAt}
+use Rattle.law_tree.specs.Best.{Scores}
+use Rattle.law_tree.specs.Tables.{IsBestOfTable}
+use Rattle.machine_text.specs.Packed.{Packed}
+use Rattle.ledger.specs.Contents.{Contents}
+use Rattle.ledger.specs.declared.format.Format.TheVariants.{Two}
+use Rattle.cmd_options.specs.declared.outcome.Outcome.{Outcome}
+use Rattle.cmd_ledgers.specs.Settled.{ReportsTree}
+use Rattle.cmd_parts.specs.Walking.{AreAnswers, WalksTree}
+use Rattle.cmd_parts.proofs.Reports.{walk_reports}
+use Rattle.cmd_parts.proofs.walk.walk_tree.Goals as goal
+
+pub returns : goal.returns
+returns g c =
+    let is_text = g.P.ReportForm.is_text c.args.form.now in
+    let held = g.W.Write.contents c.args.answers.now in
+    let new_held = g.W.Write.contents c.write_told.new.answers in
+    let so = c.in_ok-walk.ensures in
+    let told = c.in_ok-told.ensures so.records so.walked in
+    let written = c.in_ok-write_told.ensures.ok c.in_ok-walk.walk.root so.records told in
+    let board : Contents = record { root = c.in_ok-walk.walk.root; records = so.records; format = Two } in
+    let kept = AreAnswers _ g.D.Decider.answers in
+    let reports : ReportsTree is_text c.args.root kept held new_held board = record {
+      is_board = so.walked.is_board;
+      is_root = so.is_root;
+      written = written.0;
+      is_text = written.1;
+      appends = written.2;
+      kept = so.are_answers;
+    } in
+    subst (λ (o : Outcome). WalksTree is_text c.args.root kept held new_held (Ok o)) (sym c.outcome_by.ensures)
+    (walk_reports is_text c.args.root kept held new_held board c.status-status.result reports (c.status-status.ensures.stands so.records so.walked)
+    (λ best ones is. subst (λ (p : Packed). IsBestOfTable HaltsAt p best) so.is_root (c.status-status.ensures.best best ones is))
+    (λ best ones is. subst (λ (p : Packed). IsBestOfTable Scores p ones) so.is_root (c.status-status.ensures.ones best ones is)))

@@ -1,17 +1,54 @@
 #!/bin/sh
-# Works off the parts of a tree with GNU parallel, as many at once as there are processors:
+# Works off the parts of a tree, as many at once as there are processors:
 #   contrib/parallel.sh [--xz] DIR [OPTIONS OF bb settle..]
 # DIR is a folder that `bb split` made. With --xz each part is compressed once it is done (contrib/pack.sh reads it so). BB
-# names the program (./bb if it isn't set), JOBS how many parts are worked at once. Begun again, it goes on with what is
-# left: a part that is done takes as long as reading it, a compressed one no time.
+# names the program (bb beside contrib/ if it isn't set), JOBS how many parts are worked off at once. Begun again, it goes on with
+# what is left: a part that is done takes as long as reading it, a compressed one no time.
+#
+# Every ten seconds standard error says how far it is. A part that fails is named with its exit status, and the others are gone on
+# with; the script then ends with 1. DIR/parallel.log has a line for each part: its status, what was said, and its name.
 set -e
 compress=
 [ "$1" != --xz ] || { compress=--xz; shift; }
 folder=${1:?"contrib/parallel.sh [--xz] DIR [OPTIONS..]"}
 shift
-# The script ./bb sums up its sources each time: it is asked once which program it runs.
-bb=${BB:-$(./bb --where)}
-find "$folder" -name '*.ledger' ! -name trunk.ledger | sort | parallel --jobs "${JOBS:-100%}" \
-    --joblog "$folder/parallel.log" --will-cite "$(dirname "$0")/part.sh" $compress "$bb" {} "$@" > "$folder/parallel.out"
-echo "$(wc -l < "$folder/parallel.out") parts are worked off; ${BB:-./bb} join $folder says how the tree stands"
-[ -z "$compress" ] || echo "they are compressed: contrib/pack.sh $folder | ${BB:-./bb} join -"
+# The script bb sums up its sources each time: it is asked once which program it runs.
+bb=${BB:-$("$(dirname "$0")/../bb" --where)}
+log=$folder/parallel.log
+parts() { find "$folder" -name '*.ledger' ! -name trunk.ledger | sort; }
+: > "$log"
+all=$(parts | wc -l)
+start=$(date +%s)
+
+# How many parts are done, with how many tables, and how long the rest takes if it goes on so.
+tell() {
+    awk -v all="$all" -v seconds="$(($(date +%s) - start))" '
+        $2 == "settled" { tables += $3; next }
+        { failed++ }
+        END {
+            rest = NR ? int(seconds * (all - NR) / NR) : 0
+            printf "%d of %d parts done, %d tables, %d a second", NR, all, tables, seconds ? tables / seconds : 0
+            printf ", %d:%02d:%02d left", int(rest / 3600), int(rest / 60) % 60, rest % 60
+            printf failed ? ", %d failed\n" : "\n", failed
+        }' "$log" >&2
+}
+
+# Whoever reads standard error isn't to wait for the last pause.
+while sleep 10 < /dev/null > /dev/null 2>&1; do tell; done &
+teller=$!
+trap 'kill $teller 2> /dev/null || :' EXIT
+trap 'exit 130' INT TERM
+parts | xargs -P "${JOBS:-$(getconf _NPROCESSORS_ONLN)}" -I {} sh -c '
+    script=$1 part=$2 log=$3 compress=$4 status=0
+    shift 4
+    said=$("$script" $compress "$0" "$part" "$@") || status=$?
+    case $said in settled\ *) ;; *) echo "$part: status $status" >&2 ;; esac
+    echo "$status $said $part" >> "$log"' "$bb" "$(dirname "$0")/part.sh" {} "$log" "$compress" "$@"
+tell
+failed=$(awk '$2 != "settled"' "$log" | wc -l)
+[ "$failed" -eq 0 ] || { echo "$failed parts failed: $log names them" >&2; exit 1; }
+if [ -n "$compress" ]; then
+    echo "all parts are done and compressed: contrib/pack.sh $folder | bb join - says how the tree stands"
+else
+    echo "all parts are done: bb join $folder says how the tree stands"
+fi

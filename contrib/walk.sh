@@ -3,7 +3,7 @@
 #   contrib/walk.sh N [K] [OPTIONS OF bb walk..]
 # The tables with fewer than K filled entries (4 if it isn't said) are a trunk's; each table that this leaves open is the root
 # of a walk, and their trees are disjoint. Where there are no options they are --hard and the known records of five states that
-# no search of bb finds. BB names the program (./bb if it isn't set), JOBS how many walks go on at once. The report comes on
+# no search of bb finds. BB names the program (bb beside contrib/ if it isn't set), JOBS how many walks go on at once. The report comes on
 # standard output; status 0 where it says complete, 1 where it doesn't.
 #
 # It adds, and proves nothing: what is proved is said of each report by itself. bb walk N, in one process, proves the whole, and
@@ -14,8 +14,8 @@ shift
 filled=4
 case $1 in [0-9]*) filled=$1; shift ;; esac
 [ $# -gt 0 ] || set -- --hard --known "$(dirname "$0")/../examples/five-states.known"
-# The script ./bb sums up its sources each time: it is asked once which program it runs.
-bb=${BB:-$(./bb --where)}
+# The script bb sums up its sources each time: it is asked once which program it runs.
+bb=${BB:-$("$(dirname "$0")/../bb" --where)}
 jobs=${JOBS:-$(getconf _NPROCESSORS_ONLN)}
 folder=$(mktemp -d)
 trap 'rm -rf "$folder"' EXIT

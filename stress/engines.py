@@ -1,6 +1,6 @@
 #!/usr/bin/env python3
-"""Works off the tree of four states in parts by GNU parallel and by Slurm, kills what works and begins it again, and compares
-bb join's report with bb run's. Debian's packages parallel and slurm-wlm are installed where they aren't there; Slurm is
+"""Works off the tree of four states in parts by contrib/parallel.sh and by Slurm, kills what works and begins it again, and compares
+bb join's report with bb run's. Debian's package slurm-wlm is installed where it isn't there; Slurm is
 started here, with this computer as its only node, and stopped at the end. A number as argument is the seed of the kills."""
 import glob
 import os
@@ -67,9 +67,9 @@ def split(folder):
 
 
 class Parallel:
-    """Parts worked off by GNU parallel."""
+    """Parts worked off on one machine."""
 
-    name = "GNU parallel"
+    name = "contrib/parallel.sh"
 
     def begin(self, folder):
         script = os.path.join(TOP, "contrib", "parallel.sh")
@@ -157,7 +157,6 @@ def second_settle(folder):
 
 def main():
     rng = random.Random(int(sys.argv[1]) if len(sys.argv) > 1 else 1)
-    install("parallel", "parallel")
     install("slurmctld", "slurm-wlm")
     whole = bb("run", STATES, "--hard")
     with tempfile.TemporaryDirectory() as folder:

@@ -23,13 +23,13 @@ struct Passage {
     steps: u32,
     block: u16,
     state: u8,
-    /// Whether the head leaves to the right; a halt or an endless stay otherwise.
     end: End,
     /// The outermost cells that were visited, from the left.
     first: u8,
     last: u8,
 }
 
+/// To which side the head leaves a block, or that it doesn't.
 #[derive(Clone, Copy, Default, PartialEq, Eq)]
 enum End {
     #[default]

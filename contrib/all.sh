@@ -3,8 +3,8 @@
 # report:
 #   contrib/all.sh N [OPTIONS OF bb work..]
 # Where there are no options they are --hard. LEDGER names the coordinator's ledger, which a run that was stopped goes on from
-# (none is kept if it isn't set). BB names the program (bb beside contrib/ if it isn't set), JOBS how many processes work (one for each
-# processor). The report comes on standard output, how far it is on standard error, and the exit status is that of bb coord.
+# (none is kept if it isn't set). BB names the program (bb beside contrib/ if it isn't set), JOBS how many processes work (one for
+# each processor). The report comes on standard output, how far it is on standard error, and the exit status is that of bb coord.
 set -e
 states=${1:?"contrib/all.sh N [OPTIONS..]"}
 shift

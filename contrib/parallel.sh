@@ -1,9 +1,9 @@
 #!/bin/sh
-# Works off the parts of a tree, as many at once as there are processors:
+# Settles the parts of a tree, as many at once as there are processors:
 #   contrib/parallel.sh [--xz] DIR [OPTIONS OF bb settle..]
 # DIR is a folder that `bb split` made. With --xz each part is compressed once it is done (contrib/pack.sh reads it so). BB
-# names the program (bb beside contrib/ if it isn't set), JOBS how many parts are worked off at once. Begun again, it goes on with
-# what is left: a part that is done takes as long as reading it, a compressed one no time.
+# names the program (bb beside contrib/ if it isn't set), JOBS how many parts are settled at once. Begun again, it goes on with what
+# is left: a part that is done takes as long as reading it, a compressed one no time.
 #
 # Every ten seconds standard error says how far it is. A part that fails is named with its exit status, and the others are gone on
 # with; the script then ends with 1. DIR/parallel.log has a line for each part: its status, what was said, and its name.

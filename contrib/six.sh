@@ -4,9 +4,10 @@
 #   contrib/six.sh --sum DIR
 #   contrib/six.sh --again DIR COUNT [--seed S] [OPTIONS OF bb walk..]
 # The tables with fewer than six filled entries are the trunk. The children of those of them that halt with five, 241,368, are the
-# roots, as `bb split 6 DIR --filled 6 --hard` has them, and their trees are disjoint. SHARE is a number of roots, or a part of them as in 1/100. They are drawn by chance with the seed S (1 if it isn't
-# set), and a larger share of the same seed has the smaller one in it; or they are the roots from number K on, in the order of
-# their names, the first is 1. Where there are no options of bb walk they are --hard.
+# roots, as `bb split 6 DIR --filled 6 --hard` has them, and their trees are disjoint. SHARE is a number of roots, or a part of
+# them as in 1/100. They are drawn by chance with the seed S (1 if it isn't set), and a larger share of the same seed has the
+# smaller one in it; or they are the roots from number K on, in the order of their names, the first is 1. Where there are no
+# options of bb walk they are --hard.
 #
 # DIR is made, or gone on with where it was stopped: a root that was walked has DIR/walked/ROOT.xz, which holds the report of its
 # walk, and then the records that were dear to find. Nothing else is kept, but for the processor's seconds and the memory of each
@@ -14,8 +15,8 @@
 #
 # --sum says what all walked roots come to, what that says of the whole tree, and which tables are left. --again walks so many of
 # the walked roots once more, each with the records that were kept of it, and compares the reports, byte for byte: whoever is given
-# DIR can judge it so. BB names the program (bb beside contrib/ if it isn't set), JOBS how many walks go on at once. Several machines may share
-# DIR where their roots differ.
+# DIR can judge it so. BB names the program (bb beside contrib/ if it isn't set), JOBS how many walks go on at once. Several
+# machines may share DIR where their roots differ.
 set -e
 export LC_ALL=C
 usage='contrib/six.sh DIR SHARE [--seed S | --from K] [OPTIONS OF bb walk..]
@@ -65,7 +66,7 @@ FILENAME == ARGV[1] { weights[$2] = $1; every += $1; roots++; next }
 $1 == "seconds" { seconds += $2 + $3; timed++; next }
 $1 == "kilobytes" { if ($2 > memory) memory = $2; next }
 $1 == "root" { walked++; root = $2; weight += weights[root]; next }
-$1 == "nodes" { tables += $2; squares += $2 * $2; product += weights[root] * $2; if ($2 > largest) largest = $2; next }
+$1 == "nodes" { tables += $2; squares += $2 * $2; if ($2 > largest) largest = $2; next }
 $1 == "halting" { halting += $2; next }
 $1 == "holdouts" { left += $2; next }
 $1 == "best" { steps = $2 + 0; if (steps > best) { best = steps; champions = "" }; next }

@@ -3,7 +3,7 @@
 #   contrib/tree.sh N DIR [OPTIONS OF bb settle..]
 # DIR is made, or gone on with where it was stopped. Where there are no options they are --hard, and of five states the known
 # records of those tables that no search of bb finds. BB names the program (bb beside contrib/ if it isn't set), JOBS how many
-# parts are worked off at once, FILLED how many entries the tables of the trunk have (N, at most 5, if it isn't set). What is done
+# parts are settled at once, FILLED how many entries the tables of the trunk have (N, at most 5, if it isn't set). What is done
 # is said on standard error; the report comes on standard output, and its exit status. Where parts fail, it ends with 1.
 set -e
 states=${1:?"contrib/tree.sh N DIR [OPTIONS..]"}

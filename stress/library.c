@@ -4,7 +4,9 @@
  * records: each line of FILE is judged in a block of exactly its length; a line each tells what is said.
  * pages: the same, where the byte behind the text is in a page that can't be read, and once more where that before it is.
  * ledger, ledger-pages: all of FILE is reported so.
- * refused, ledger-refused: each of the first requests for memory is refused in turn, and with it all later ones; what is
+ * pieces, pieces-pages: all of FILE is fed to a reader, in pieces of many lengths, each in a block or beside such a page; the
+ *     reader itself ends where memory can't be read, and the memory before and behind it stays as it was.
+ * refused, ledger-refused, pieces-refused: each of the first requests for memory is refused in turn, and with it all later ones; what is
  *     said then is that memory was refused, or what is said else.
  *
  * Whatever the way, each block that a call asked for has to be given back when it returns: else the end is 1. All calls are
@@ -60,15 +62,57 @@ union told {
 };
 
 static const char *way, *path;
-static int is_ledger, status;
+static int is_ledger, is_fed, status;
 static size_t page;
 static long refusals;
+
+/* A place at the end of readable memory, or at its beginning. All of it is given back by `leave`. */
+struct place {
+    unsigned char *all, *at;
+    size_t size;
+};
+
+static struct place place_of(size_t length, int at_end) {
+    size_t room = (length + page - 1) / page * page;
+    struct place made = {NULL, NULL, room + 2 * page};
+    made.all = mmap(NULL, made.size, PROT_NONE, MAP_PRIVATE | MAP_ANONYMOUS, -1, 0);
+    if (made.all == MAP_FAILED || (room && mprotect(made.all + page, room, PROT_READ | PROT_WRITE))) exit(2);
+    made.at = made.all + page + (at_end ? room - length : 0);
+    return made;
+}
+
+static void leave(struct place made) { munmap(made.all, made.size); }
+
+/* Feeds a text to a reader that has its own bytes alone, in pieces of 0 to 200 bytes, each behind the other. */
+static struct bb_tree fed(const unsigned char *text, size_t length) {
+    struct place room = place_of(sizeof(struct bb_reader), 1);
+    struct bb_reader *reader = (struct bb_reader *)room.at;
+    unsigned long random = length + 1;
+    bb_report_begin(reader);
+    for (size_t at = 0, count; at < length; at += count) {
+        random = random * 6364136223846793005UL + 1442695040888963407UL;
+        count = (random >> 33) % 201;
+        if (count > length - at) count = length - at;
+        if (strstr(way, "pages")) {
+            struct place piece = place_of(count, random >> 63 & 1);
+            if (count) memcpy(piece.at, text + at, count);
+            bb_report_feed(reader, piece.at, count);
+            leave(piece);
+        } else
+            bb_report_feed(reader, text + at, count);
+    }
+    struct bb_tree told = bb_report_end(reader);
+    leave(room);
+    return told;
+}
 
 /* One call. What stood in `told` doesn't matter. */
 static void call(const unsigned char *text, size_t length, union told *told) {
     memset(told, 0xa5, sizeof *told);
     requests = held = 0;
-    if (is_ledger)
+    if (is_fed)
+        told->tree = fed(text, length);
+    else if (is_ledger)
         bb_report(text, length, &told->tree);
     else
         bb_check(text, length, &told->answer);
@@ -80,13 +124,10 @@ static void call(const unsigned char *text, size_t length, union told *told) {
 
 /* Calls with the text at the end of readable memory, or at its beginning. */
 static void call_within(const unsigned char *text, size_t length, int at_end, union told *told) {
-    size_t room = (length + page - 1) / page * page;
-    unsigned char *all = mmap(NULL, room + 2 * page, PROT_NONE, MAP_PRIVATE | MAP_ANONYMOUS, -1, 0);
-    if (all == MAP_FAILED || (room && mprotect(all + page, room, PROT_READ | PROT_WRITE))) exit(2);
-    unsigned char *place = all + page + (at_end ? room - length : 0);
-    if (length) memcpy(place, text, length);
-    call(place, length, told);
-    munmap(all, room + 2 * page);
+    struct place made = place_of(length, at_end);
+    if (length) memcpy(made.at, text, length);
+    call(made.at, length, told);
+    leave(made);
 }
 
 static size_t size(void) { return is_ledger ? sizeof(struct bb_tree) : sizeof(struct bb_answer); }
@@ -159,7 +200,8 @@ int main(int argc, char **argv) {
     if (argc != 3 || bb_version() != BB_VERSION) return 2;
     way = argv[1];
     path = argv[2];
-    is_ledger = strncmp(way, "ledger", 6) == 0;
+    is_fed = strncmp(way, "pieces", 6) == 0;
+    is_ledger = is_fed || strncmp(way, "ledger", 6) == 0;
     page = (size_t)sysconf(_SC_PAGESIZE);
     FILE *in = fopen(path, "rb");
     if (!in) return 2;

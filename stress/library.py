@@ -4,16 +4,22 @@
 So many records (100,000 where it isn't said) of all kinds, whole and damaged by the seed, are judged by `bb check` and by
 the library: by a program in C, by threads of one in Python and of one in Rust, each of which judges all of them, in another
 order. Then ledgers, whole, torn, damaged and shuffled, are reported by `bb report` and by the library. The answers have to
-be the same. In C, each text also ends and begins where memory that can't be read does; each of a call's first requests for
-memory is refused in turn; and valgrind sees a sample: nothing is lost, and nothing read beyond a text. ARCHIVE is what
-packaging/c/archive builds, else crates/libbb/out/liblibbb.a, which is what `rt lib` leaves.
+be the same, and what each number means is said in the program's words. In C, each text also ends and begins where memory that
+can't be read does; each of a call's first requests for memory is refused in turn; and valgrind sees a sample: nothing is lost,
+and nothing read beyond a text. The library and the wheel are made twice, and have the same bytes; and what packaging/library
+lays out is used with nothing else (stress/library_alone.py). ARCHIVE is what packaging/c/archive builds, else
+crates/libbb/out/liblibbb.a, which is what `rt lib` leaves.
 
 Prints what was tried, and which tools weren't there; ends with 1 where anything differs. --speed prints how many records
 each judges in a second of processor time. Needs a C compiler.
 """
 import collections
 import doctest
+import filecmp
+import io
+import json
 import os
+import pathlib
 import random
 import re
 import shutil
@@ -22,6 +28,7 @@ import sys
 import tempfile
 import threading
 
+import library_alone
 from oracle import NAMED
 from records import SEEDS, damaged, found, random_table
 
@@ -128,6 +135,7 @@ class Library:
     def __init__(self, room, archive):
         self.room = room
         ran([os.path.join(PACKAGING, "c", "make"), room, archive], stdout=subprocess.DEVNULL).check_returncode()
+        self.archive = archive
         self.tool = self.compiled("library", os.path.join(TOP, "stress", "library.c"), "-pthread",
                                   *(f"-Wl,--wrap={name}" for name in ("malloc", "realloc", "free")))
         self.example = self.compiled("example", os.path.join(PACKAGING, "c", "example.c"))
@@ -147,19 +155,92 @@ class Library:
 
 
 def exported(library):
-    """The shared library shows the functions of bb.h and no other name."""
+    """Both libraries show the functions of bb.h and no other name, and C++ takes the header."""
     with open(os.path.join(PACKAGING, "c", "bb.h"), encoding="utf-8") as file:
-        due = sorted(re.findall(r"^\w+ (bb_\w+)\(", file.read(), re.M))
-    run = ran(["nm", "-D", "--defined-only", os.path.join(library.room, "libbb.so")], capture_output=True, text=True)
-    names = sorted(line.split()[-1] for line in run.stdout.splitlines())
-    if names != due:
-        raise Differs(f"libbb.so shows {names}, and not {due}")
-    again = tempfile.mkdtemp(dir=library.room)
+        due = sorted(re.findall(r"^[\w ]+[ *](bb_\w+)\(", file.read(), re.M))
+    for name, words in (("libbb.so", ["-D"]), ("libbb.a", ["--extern-only"])):
+        run = ran(["nm", *words, "--defined-only", os.path.join(library.room, name)], capture_output=True, text=True)
+        names = sorted(line.split()[-1] for line in run.stdout.splitlines() if len(line.split()) == 3)
+        if names != due:
+            raise Differs(f"{name} shows {names}, and not {due}")
     if shutil.which("c++"):
-        source = os.path.join(again, "header.cpp")
+        source = os.path.join(library.room, "header.cpp")
         with open(source, "w", encoding="utf-8") as file:
-            file.write('#include "bb.h"\nstatic_assert(sizeof(bb_answer) == 48 && sizeof(bb_tree) == 96);\n')
+            file.write('#include "bb.h"\nstatic_assert(sizeof(bb_answer) == 48 && sizeof(bb_tree) == 96 && sizeof(bb_reader) == BB_READER_BYTES);\n')
         ran(["c++", "-std=c++17", "-Wall", "-Wextra", "-Werror", "-I", library.room, "-fsyntax-only", source]).check_returncode()
+
+
+def made_again(library, wheel):
+    """Made in another folder, with other rights for new files, the library and the wheel have the same bytes."""
+    again = os.path.join(library.room, "again")
+    before = os.umask(0o077)
+    try:
+        os.mkdir(again)
+        ran([os.path.join(PACKAGING, "c", "make"), again, library.archive], stdout=subprocess.DEVNULL).check_returncode()
+        ran([os.path.join(PACKAGING, "python", "make"), again, again], stdout=subprocess.DEVNULL).check_returncode()
+    finally:
+        os.umask(before)
+    for name in ("libbb.a", "libbb.so", "bb.h", os.path.basename(wheel)):
+        if not filecmp.cmp(os.path.join(library.room, name), os.path.join(again, name), shallow=False):
+            raise Differs(f"{name}, made twice, has other bytes")
+    print("library: libbb.a, libbb.so and the wheel made twice, the same bytes")
+
+
+def declared(path, name):
+    """The words of a type of faults in the crates, by their numbers, without a place."""
+    with open(os.path.join(TOP, "crates", *path), encoding="utf-8") as file:
+        text = file.read()
+    arm = rf"{name}::(\w+)(?:\(\w+\))? =>\s*"
+    numbers = dict(re.findall(arm + r"(?:Some\()?(\d{3})", text))
+    words = re.findall(arm + r"\{?\s*(?:write!\(\s*f,\s*|f\.write_str\(\s*)\"([^\"]*)\"", text)
+    return {int(numbers[variant]): said.removesuffix(" at byte {place}") for variant, said in words if variant in numbers}
+
+
+def meanings(busybeaver, lines, due):
+    """What each number means is said in the words of `bb check --json`, and of the crates where the program says numbers alone."""
+    wanted = {}
+    for path, name in ((("machine_text", "src", "faults.rt"), "TextFault"), (("ledger", "src", "faults.rt"), "OfferFault"),
+                       (("ledger", "src", "faults.rt"), "LoadFault")):
+        wanted.update(declared(path, name))
+    refused = {said.split(b" ")[1]: line for line, said in zip(lines, due) if said.startswith(b"refused")}
+    run = ran([PROGRAM, "check", "--json"], input=b"".join(line + b"\n" for line in refused.values()), capture_output=True)
+    for line in run.stdout.splitlines():
+        told = json.loads(line)
+        wanted[told["code"]] = told["meaning"]
+    numbers = [*range(101, 106), *range(201, 204), *range(301, 306), *range(402, 406)]
+    if sorted(wanted) != numbers:
+        raise Differs(f"words are known of {sorted(wanted)}, and not of {numbers}")
+    other = busybeaver.meaning(0)
+    for code in range(1_000):
+        if busybeaver.meaning(code) != wanted.get(code, other):
+            raise Differs(f"{code} means {busybeaver.meaning(code)!r}, and not {wanted.get(code, other)!r}")
+    print(f"library: what {len(wanted)} numbers mean is said in the program's words")
+
+
+def by_path(busybeaver, path, text, due):
+    """A ledger as a file, in other forms and in pieces is reported as its text is."""
+    with open(path, "wb") as file:
+        file.write(text)
+    for way in (pathlib.Path(path), bytearray(text), memoryview(text), io.BytesIO(text), text.decode("utf-8", "surrogateescape")):
+        if busybeaver.report(way) != due:
+            raise Differs(f"a ledger as {type(way)}: {busybeaver.report(way)}, and not {due}")
+    with busybeaver.Reader() as reader:
+        for place in range(0, len(text), 61):
+            reader.feed(text[place:place + 61])
+        told = reader.end()
+    if told != due:
+        raise Differs(f"a ledger in pieces: {told}, and not {due}")
+    busybeaver.Reader().feed(text)
+
+
+def alone(library):
+    """What packaging/library lays out is used from a place with nothing else."""
+    laid = os.path.join(library.room, "laid")
+    ran([os.path.join(PACKAGING, "library"), laid, library.room]).check_returncode()
+    try:
+        library_alone.main(laid, PROGRAM)
+    except library_alone.Differs as differs:
+        raise Differs(f"alone: {differs}") from differs
 
 
 def installed(library):
@@ -309,9 +390,8 @@ def ledgers(library, busybeaver, rng):
         if not is_told(told, report, busybeaver.Status):
             raise Differs(f"ledger {number}: {told}, and {report}")
         statuses[report.status.name.lower() + (", not all kept" if report.left_line else "")] += 1
-        with open(path, "wb") as file:
-            file.write(text)
-        rows = {way: library.rows(way, path) for way in ("ledger", "ledger-pages")}
+        by_path(busybeaver, path, text, report)
+        rows = {way: library.rows(way, path) for way in ("ledger", "ledger-pages", "pieces", "pieces-pages")}
         due = [int(report.status), report.code or 0, report.states, report.is_whole, report.nodes, report.halting, report.never,
                report.holdouts, report.open, int(report.best is not None), report.best or 0, int(report.ones is not None), report.ones or 0,
                report.left_line or 0, int(report.left_why or 0), report.left_code or 0]
@@ -319,8 +399,8 @@ def ledgers(library, busybeaver, rng):
             if row != [due]:
                 raise Differs(f"ledger {number}, {way}: {row}, and not {due}")
         if len(text) < 20_000:
-            refusals += int(library.rows("ledger-refused", path)[1])
-    print(f"library: {LEDGERS} ledgers reported as bb report does: " + ", ".join(f"{n} {s}" for s, n in sorted(statuses.items()))
+            refusals += sum(int(library.rows(way, path)[1]) for way in ("ledger-refused", "pieces-refused"))
+    print(f"library: {LEDGERS} ledgers reported as bb report does, whole and in pieces: " + ", ".join(f"{n} {s}" for s, n in sorted(statuses.items()))
           + f"; {refusals} requests refused")
 
 
@@ -347,7 +427,8 @@ def valgrind(library, lines, rng, path):
         file.write(b"".join(line + b"\n" for line in ODD + sample if len(line) < SHORT))
     refusals = int(library.rows("refused", path)[1])
     for name in ("three-states", "unfit"):
-        library.rows("ledger", os.path.join(TOP, "examples", f"{name}.ledger"), *words)
+        for way in ("ledger", "pieces"):
+            library.rows(way, os.path.join(TOP, "examples", f"{name}.ledger"), *words)
     print(f"library: valgrind saw {len(ODD) + len(sample)} records and 2 ledgers: nothing lost, nothing read beyond a text; "
           f"{refusals} requests refused")
 
@@ -373,6 +454,9 @@ def all_of(count, seed, archive):
         if library.rows("pages", path)[0] != rows:
             raise Differs("a text beside memory that can't be read is judged otherwise")
         by_threads(busybeaver, lines, rows)
+        if [record for record, _ in busybeaver.check_file(path)] != lines:
+            raise Differs("check_file gives other lines than the file has")
+        meanings(busybeaver, lines, due)
         printed([library.example], path, lines, due)
         environment = {**os.environ, "PYTHONPATH": os.path.join(room, "site")}
         printed([sys.executable, os.path.join(PACKAGING, "python", "example.py")], path, lines, due, env=environment)
@@ -386,6 +470,8 @@ def all_of(count, seed, archive):
         valgrind(library, lines, rng, os.path.join(room, "sample"))
         ledgers(library, busybeaver, rng)
         four_states(busybeaver)
+        made_again(library, wheel)
+        alone(library)
 
 
 def speed(archive):

@@ -8,9 +8,10 @@
  *
  * - It gives what it promises below for each text of any bytes. That is proved of the code behind it, for all texts,
  *   from the definitions on; docs/PROOFS.md names the contracts.
- * - It reads the text and nothing else, writes OUT and nothing else, and asks the C library for memory that it gives back
- *   before it returns. Refused memory is an answer. It prints nothing, opens nothing, never ends the process, and returns.
- * - It keeps nothing from one call to the next and takes no lock. So threads may call side by side, on the same text too.
+ * - It reads the text and nothing else, writes OUT or the reader and nothing else, and asks the C library for memory that it
+ *   gives back before it returns, or before the reader's end. Refused memory is an answer. It prints nothing, opens nothing, never ends the process, and returns.
+ * - But for a reader, it keeps nothing from one call to the next, and it takes no lock. So threads may call side by side, on
+ *   the same text too.
  *
  * What a caller owes, which nothing checks:
  *
@@ -36,10 +37,13 @@ extern "C" {
 #endif
 
 /* The number of this interface. It grows with each change of what is declared here. */
-#define BB_VERSION 1
+#define BB_VERSION 2
 
 /* So much stack is enough for a call. */
 #define BB_STACK_BYTES 65536
+
+/* So many bytes a reader has. */
+#define BB_READER_BYTES 1024
 
 /* What is said of a record: bb_answer.outcome. */
 enum {
@@ -99,8 +103,20 @@ struct bb_tree {
     uint32_t left_code;  /* the refusal's number of that line, where it is BB_UNREAD or BB_UNFIT */
 };
 
+/* A ledger's text that is reported in pieces. What is in it is the library's own. */
+struct bb_reader {
+    uint64_t room[BB_READER_BYTES / 8];
+};
+
 /* BB_VERSION of the library that is linked. */
 uint32_t bb_version(void);
+
+/*
+ * What a refusal's number means, in a few words of English: of a code, table_code or left_code. The text is the library's:
+ * nobody frees it, and it stays. A number that none of these can be has a text too, which says so. Where there is a place,
+ * the words don't have it.
+ */
+const char *bb_strerror(uint32_t code);
 
 /*
  * Judges one record: a text without a newline.
@@ -127,6 +143,20 @@ void bb_check(const unsigned char *text, size_t length, struct bb_answer *out);
  * It keeps the records in memory until it returns: some 160 bytes for each, and what their lists and automata take.
  */
 void bb_report(const unsigned char *text, size_t length, struct bb_tree *out);
+
+/*
+ * The same of a text that comes in pieces, wherever it is cut: begin a reader, feed it the pieces in their order, and end it.
+ * What the end answers is what is promised of bb_report for all that was fed. No piece is needed once it was fed: a reader
+ * keeps the records, and of a line that isn't finished no more than a record has.
+ *
+ * A reader lies in the caller's memory, and asks for more behind that. Its caller begins it once, ends it once, and feeds it
+ * between the two alone; until its end nobody else reads, writes, copies or moves it. Where memory is refused, the end says
+ * so. Threads may feed different readers side by side, and hand one on to another thread between two calls. A reader that
+ * isn't ended keeps its memory.
+ */
+void bb_report_begin(struct bb_reader *reader);
+void bb_report_feed(struct bb_reader *reader, const unsigned char *piece, size_t length);
+struct bb_tree bb_report_end(struct bb_reader *reader);
 
 #ifdef __cplusplus
 }

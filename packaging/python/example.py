@@ -22,17 +22,14 @@ def line_of(record: bytes, answer: Answer) -> bytes:
     return table + (b" never" if answer.outcome == Outcome.NEVER else b" undecided")
 
 
-def judge(records: BinaryIO, out: BinaryIO) -> bool:
+def judge(path: str, out: BinaryIO) -> bool:
     """Whether each record of a file was accepted."""
     accepted = True
-    for line in records:
-        record = line.removesuffix(b"\n")
-        answer = busybeaver.check(record)
+    for record, answer in busybeaver.check_file(path):
         accepted &= answer.outcome != Outcome.REFUSED
         out.write(line_of(record, answer) + b"\n")
     return accepted
 
 
 if __name__ == "__main__":
-    with open(sys.argv[1], "rb") as file:
-        sys.exit(0 if judge(file, sys.stdout.buffer) else 1)
+    sys.exit(0 if judge(sys.argv[1], sys.stdout.buffer) else 1)

@@ -1,3 +1,5 @@
 mod Complete
+mod FirstBytes
 mod Gives
 mod Greatest
+mod Pieces

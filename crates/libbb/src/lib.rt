@@ -1,16 +1,22 @@
-//! The judge as C functions, which other languages call: one judges a record, one a ledger. `packaging/c/bb.h` says to a
-//! caller what he gives and gets.
+//! The judge as C functions, which other languages call: one judges a record, one a ledger, three a ledger whose text comes
+//! in pieces. `packaging/c/bb.h` says to a caller what he gives and gets.
 //!
 //! What is said of a record and of a ledger is plain numbers, since a program in another language has no text to read
-//! then: `specs/Answer` says which numbers come of a record's text, `specs/TreeAnswer` which come of a ledger's.
+//! then: `specs/Answer` says which numbers come of a record's text, `specs/TreeAnswer` which come of a ledger's, and
+//! `specs/Pieces` what a reader holds of the text that it was fed, which lies in the caller's memory.
 //!
-//! No function keeps anything between two calls, and none waits for another: threads may make them side by side.
+//! But for that, no function keeps anything between two calls, and none waits for another: threads may make them side by
+//! side.
 #![tactic(auto)]
 
 mod answer;
+mod behind;
+mod first_bytes;
+mod reader;
 mod tree_answer;
 
-ghost use Rattle.std.specs.Prelude.{◌≡◌, Ok};
+ghost use Rattle.std.specs.Prelude.{◌≡◌, ◌++◌, ℕ, List, [], Ok};
+ghost use Rattle.std.specs.Borrow.{sem};
 ghost use Rattle.machine_text.specs.Packed.{entry_of};
 ghost use Rattle.law_turing.specs.Halting.{IsRado, Never};
 ghost use Rattle.law_turing.specs.Score.{HaltsWith};
@@ -18,18 +24,20 @@ ghost use Rattle.cert.specs.Claim.{Recorded};
 ghost use Rattle.cert.specs.Grammar.{record_of};
 ghost use Rattle.ledger.specs.Sigma.{IsSigma};
 ghost use Rattle.libbb.specs.Answer.{TellsOfRead};
+ghost use Rattle.libbb.specs.Pieces.{reader_at, reader_room};
 ghost use Rattle.libbb.specs.TreeAnswer.{Reports};
 
 use answer::{Answer, check_text};
+use reader::Reader;
 use std::alloc::Global;
 use tree_answer::{TreeAnswer, report_text};
 
 /// The number of this interface: it grows with each change of what is declared in `bb.h`.
 #[unsafe(no_mangle)]
 pub extern "C" fn bb_version() -> u32
-    ensures { result ≡ 1 }
+    ensures { result ≡ 2 }
 {
-    1
+    2
 }
 
 /// Judges one record, a text without a newline.
@@ -54,4 +62,39 @@ pub extern "C" fn bb_report(alloc: Global, text: &[u8], out: &mut TreeAnswer)
         → IsSigma out.new.states out.new.ones }
 {
     *out = report_text(alloc, text);
+}
+
+/// Begins to report a ledger whose text comes in pieces: makes a reader in the caller's memory.
+#[unsafe(no_mangle)]
+pub unsafe extern "C" fn bb_report_begin(place: *mut u8)
+    requires* { sem 𝓛 (reader_room place) }
+    ensures* { sem 𝓛 (reader_at place []) }
+{
+    let reader = Reader::new();
+    unsafe { (place as *mut Reader).write(reader) };
+}
+
+/// Feeds a reader one more piece of the text, wherever that is cut.
+#[unsafe(no_mangle)]
+pub unsafe extern "C" fn bb_report_feed(alloc: Global, place: *mut u8, piece: &[u8])
+    ghost text: { List ℕ }
+    requires* { sem 𝓛 (reader_at place text) }
+    ensures* { sem 𝓛 (reader_at place (text ++ piece.now)) }
+{
+    let reader = unsafe { (place as *mut Reader).read() };
+    let reader = reader.fed(alloc, piece);
+    unsafe { (place as *mut Reader).write(reader) };
+}
+
+/// Reports the text that a reader was fed, as `bb_report` does, and ends the reader.
+#[unsafe(no_mangle)]
+pub unsafe extern "C" fn bb_report_end(alloc: Global, place: *mut u8) -> TreeAnswer
+    ghost text: { List ℕ }
+    requires* { sem 𝓛 (reader_at place text) }
+    ensures { Reports text result
+        × (result.outcome ≡ 0 → result.is_whole ≡ 1 → result.has_best ≡ 1 → IsRado result.states result.best)
+        × (result.outcome ≡ 0 → result.is_whole ≡ 1 → result.has_ones ≡ 1 → IsSigma result.states result.ones) }
+{
+    let reader = unsafe { (place as *mut Reader).read() };
+    reader.report(alloc)
 }

@@ -99,8 +99,8 @@ fn report_of(alloc: Global, root: Table, text: &[u8]) -> TreeAnswer
     }
 }
 
-// How a board stands, and what wasn't kept of its ledger.
-fn tell(board: &Board, left: &Left) -> TreeAnswer
+/// How a board stands, and what wasn't kept of its ledger.
+pub(crate) fn tell(board: &Board, left: &Left) -> TreeAnswer
     ensures tells { TellsOf board.now.root board.now.records left.now result }
     ensures rado { result.outcome ≡ 0 → result.is_whole ≡ 1 → result.has_best ≡ 1
         → IsRado result.states result.best }
@@ -153,8 +153,8 @@ fn told(states: u32, is_whole: u32, status: Status, tally: &Tally, left: &Left) 
     }
 }
 
-// Why there is no board.
-fn refused(fault: LoadFault) -> TreeAnswer
+/// Why there is no board.
+pub(crate) fn refused(fault: LoadFault) -> TreeAnswer
     ensures header { fault ≡ LoadFault.BadHeader → result ≡ no_tree 3 404 }
     ensures root { fault ≡ LoadFault.WrongRoot → result ≡ no_tree 3 405 }
     ensures memory { fault ≡ LoadFault.NoMemory → result ≡ no_tree 4 0 }

@@ -5,17 +5,24 @@
 //!
 //! let shown = check(b"1RB1LB_1LA--- H 6 4").unwrap();
 //! assert_eq!(shown.verdict, Some(Verdict::Halts { steps: 6, ones: 4 }));
+//! assert_eq!(check(b"1RB1LB_1LA--- H 7").unwrap_err().meaning(), "it doesn't hold for the table");
 //! ```
 //!
 //! What is proved of the calls behind this, and what a caller owes them, is said in `packaging/c/bb.h`. A `&[u8]` and a
 //! struct of one's own meet all of that but for the processor (x86-64-v2), the stack (64 kilobytes), and that no call comes
 //! from a signal handler or from the forked child of a process with threads. Threads may call side by side.
 
-use std::fmt;
+use std::ffi::{c_char, CStr};
+use std::mem::{ManuallyDrop, MaybeUninit};
+use std::sync::Once;
+use std::{fmt, io};
 
-/// What is declared in `bb.h`. Nothing compares the two, so each edit there is made here too; `VERSION` is tested.
+/// What is declared in `bb.h`. Nothing compares the two, so each edit there is made here too. The first call of a process
+/// compares `VERSION`.
 mod declared {
-    pub const VERSION: u32 = 1;
+    use super::c_char;
+
+    pub const VERSION: u32 = 2;
 
     #[repr(C)]
     #[derive(Clone, Copy, Default)]
@@ -29,6 +36,13 @@ mod declared {
         pub has_place: u32,
         pub has_ones: u32,
         pub kind: u32,
+    }
+
+    pub const READER_BYTES: usize = 1024;
+
+    #[repr(C)]
+    pub struct Reader {
+        pub room: [u64; READER_BYTES / 8],
     }
 
     #[repr(C)]
@@ -54,10 +68,17 @@ mod declared {
 
     extern "C" {
         pub fn bb_version() -> u32;
+        pub fn bb_strerror(code: u32) -> *const c_char;
         pub fn bb_check(text: *const u8, length: usize, out: *mut Answer);
         pub fn bb_report(text: *const u8, length: usize, out: *mut Tree);
+        pub fn bb_report_begin(reader: *mut Reader);
+        pub fn bb_report_feed(reader: *mut Reader, piece: *const u8, length: usize);
+        pub fn bb_report_end(reader: *mut Reader) -> Tree;
     }
 }
+
+/// The number of the program whose judge this is.
+pub const VERSION: &str = env!("CARGO_PKG_VERSION");
 
 /// What a certificate that stands shows of its table.
 #[derive(Clone, Copy, Debug, PartialEq, Eq)]
@@ -68,19 +89,91 @@ pub enum Verdict {
     Never,
 }
 
+/// The kinds of records, by what their certificates are.
+#[derive(Clone, Copy, Debug, PartialEq, Eq, Hash)]
+#[non_exhaustive]
+pub enum Kind {
+    /// `H`: the table halts.
+    Halting,
+    /// `C`: two configurations are equal.
+    Cycler,
+    /// `T`: two configurations are equal but for a shift.
+    TranslatedCycler,
+    /// `B`: no configuration halts after a number of steps.
+    Backward,
+    /// `N`: words and local configurations that no step leaves.
+    NgramCps,
+    /// `F`: two finite automata, the first of at most 16 states.
+    FiniteAutomata,
+    /// `A`: the same, the first of at most 4,096 states.
+    LargeAutomata,
+    /// `W`: automata that count.
+    Counted,
+    /// `R`: rules with induction.
+    Rules,
+    /// `P`: a machine with a proof of its own.
+    Named,
+    /// `U`: nothing is claimed.
+    Unclaimed,
+    /// A kind that this crate has no name for, by its letter.
+    Other(u8),
+}
+
+impl Kind {
+    /// The kind of a letter.
+    #[must_use]
+    pub fn of(letter: u8) -> Kind {
+        match letter {
+            b'H' => Kind::Halting,
+            b'C' => Kind::Cycler,
+            b'T' => Kind::TranslatedCycler,
+            b'B' => Kind::Backward,
+            b'N' => Kind::NgramCps,
+            b'F' => Kind::FiniteAutomata,
+            b'A' => Kind::LargeAutomata,
+            b'W' => Kind::Counted,
+            b'R' => Kind::Rules,
+            b'P' => Kind::Named,
+            b'U' => Kind::Unclaimed,
+            other => Kind::Other(other),
+        }
+    }
+
+    /// The letter that stands for the kind in a record.
+    #[must_use]
+    pub fn letter(self) -> u8 {
+        match self {
+            Kind::Halting => b'H',
+            Kind::Cycler => b'C',
+            Kind::TranslatedCycler => b'T',
+            Kind::Backward => b'B',
+            Kind::NgramCps => b'N',
+            Kind::FiniteAutomata => b'F',
+            Kind::LargeAutomata => b'A',
+            Kind::Counted => b'W',
+            Kind::Rules => b'R',
+            Kind::Named => b'P',
+            Kind::Unclaimed => b'U',
+            Kind::Other(other) => other,
+        }
+    }
+}
+
 /// A record that was accepted.
 #[derive(Clone, Copy, Debug, PartialEq, Eq)]
+#[non_exhaustive]
 pub struct Shown {
     /// The verdict; none of a record of the kind U, by which nothing is claimed.
     pub verdict: Option<Verdict>,
-    /// The letter of the record's kind.
-    pub kind: u8,
+    /// The record's kind.
+    pub kind: Kind,
     /// Whether the record says the ones itself.
     pub says_ones: bool,
 }
 
 /// The fault of a table's text.
 #[derive(Clone, Copy, Debug, PartialEq, Eq)]
+#[non_exhaustive]
 pub struct TableFault {
     /// Its number, 101 to 105.
     pub code: u32,
@@ -90,6 +183,7 @@ pub struct TableFault {
 
 /// Why a record was refused.
 #[derive(Clone, Copy, Debug, PartialEq, Eq)]
+#[non_exhaustive]
 pub enum Refusal {
     /// The text begins with no table: 301.
     NoTable(TableFault),
@@ -97,13 +191,14 @@ pub enum Refusal {
     NoRecord(u32),
     /// The certificate of this kind doesn't stand (201), asks for more than its limit (202), or its check gets too large
     /// (203).
-    Certificate { code: u32, kind: u8 },
+    Certificate { code: u32, kind: Kind },
     /// Memory was refused.
     NoMemory,
 }
 
 /// Why a ledger was refused.
 #[derive(Clone, Copy, Debug, PartialEq, Eq)]
+#[non_exhaustive]
 pub enum NoLedger {
     /// The text has no header, or not all of one: 404.
     BadHeader,
@@ -126,6 +221,7 @@ pub enum Status {
 
 /// Why a line of a ledger wasn't kept.
 #[derive(Clone, Copy, Debug, PartialEq, Eq)]
+#[non_exhaustive]
 pub enum Why {
     /// The line has no end.
     Torn,
@@ -141,6 +237,7 @@ pub enum Why {
 ///
 /// Where the status is `Complete` and `is_whole` is true, `best` is S(states) and `ones` is Σ(states).
 #[derive(Clone, Copy, Debug, PartialEq, Eq)]
+#[non_exhaustive]
 pub struct Report {
     pub status: Status,
     /// The number of states of the root.
@@ -160,19 +257,40 @@ pub struct Report {
     pub left: Option<(u64, Why)>,
 }
 
-/// Whether the library that is linked has the interface that is declared here.
+/// The first call of a process looks whether the library that is linked is the one of this crate.
+///
+/// # Panics
+///
+/// It panics where the library has another interface than is declared here: another `libbb.a` was linked.
+fn linked() {
+    static LOOKED: Once = Once::new();
+    LOOKED.call_once(|| {
+        // SAFETY: the function takes nothing.
+        let version = unsafe { declared::bb_version() };
+        assert!(
+            version == declared::VERSION,
+            "busybeaver {VERSION} needs libbb with interface {}, and interface {version} is linked",
+            declared::VERSION
+        );
+    });
+}
+
+/// What a refusal's number means, in words.
 #[must_use]
-pub fn is_of_this_version() -> bool {
-    // SAFETY: the function takes nothing.
-    unsafe { declared::bb_version() == declared::VERSION }
+pub fn meaning(code: u32) -> &'static str {
+    linked();
+    // SAFETY: the function takes a number, and gives a text of the library's that stays and ends with a zero.
+    let words = unsafe { CStr::from_ptr(declared::bb_strerror(code)) };
+    words.to_str().expect("the words are ASCII")
 }
 
 /// Judges one record, a text without a newline.
 pub fn check(text: &[u8]) -> Result<Shown, Refusal> {
+    linked();
     let mut told = declared::Answer::default();
     // SAFETY: the text is borrowed for the call, with its length, and `told` is a struct of this function's.
     unsafe { declared::bb_check(text.as_ptr(), text.len(), &mut told) };
-    let kind = told.kind as u8;
+    let kind = Kind::of(told.kind as u8);
     let shown = |verdict| {
         Ok(Shown {
             verdict,
@@ -201,16 +319,21 @@ fn refusal(told: &declared::Answer) -> Refusal {
         302..=305 => Refusal::NoRecord(told.code),
         code => Refusal::Certificate {
             code,
-            kind: told.kind as u8,
+            kind: Kind::of(told.kind as u8),
         },
     }
 }
 
 /// Reports a ledger, by its whole text: every record of it is judged.
 pub fn report(text: &[u8]) -> Result<Report, NoLedger> {
+    linked();
     let mut told = declared::Tree::default();
     // SAFETY: as in `check`.
     unsafe { declared::bb_report(text.as_ptr(), text.len(), &mut told) };
+    as_report(&told)
+}
+
+fn as_report(told: &declared::Tree) -> Result<Report, NoLedger> {
     let status = match (told.outcome, told.code) {
         (0, _) => Status::Complete,
         (1, _) => Status::Holdouts,
@@ -230,8 +353,85 @@ pub fn report(text: &[u8]) -> Result<Report, NoLedger> {
         open: told.open,
         best: (told.has_best == 1).then_some(told.best),
         ones: (told.has_ones == 1).then_some(told.ones),
-        left: left(&told),
+        left: left(told),
     })
+}
+
+/// A ledger whose text comes in pieces, wherever it is cut: fed in their order, and ended once.
+///
+/// What the end answers is what `report` says of all that was fed. It keeps the records, and of a line that isn't finished no
+/// more than a record has. Written to, it is fed, so that `std::io::copy` reports a file.
+///
+/// ```
+/// let mut reader = busybeaver::Reader::new();
+/// reader.feed(b"bb-ledger 2 ---");
+/// reader.feed(b"---\n");
+/// assert_eq!(reader.end(), busybeaver::report(b"bb-ledger 2 ------\n"));
+/// ```
+pub struct Reader {
+    /// It stays where it is, since the library holds it there.
+    place: Box<MaybeUninit<declared::Reader>>,
+}
+
+// SAFETY: a reader may be handed on to another thread between two calls, and only `&mut` and its value call it.
+unsafe impl Send for Reader {}
+
+impl Reader {
+    /// Before the first byte.
+    #[must_use]
+    pub fn new() -> Reader {
+        linked();
+        let mut place = Box::new(MaybeUninit::uninit());
+        // SAFETY: the box has room for a reader, and nobody else knows it.
+        unsafe { declared::bb_report_begin(place.as_mut_ptr()) };
+        Reader { place }
+    }
+
+    /// Takes one more piece of the text.
+    pub fn feed(&mut self, piece: &[u8]) {
+        // SAFETY: `new` began the reader, and it isn't ended; the piece is borrowed for the call, with its length.
+        unsafe { declared::bb_report_feed(self.place.as_mut_ptr(), piece.as_ptr(), piece.len()) };
+    }
+
+    /// Reports the text, which ends here.
+    pub fn end(self) -> Result<Report, NoLedger> {
+        let mut reader = ManuallyDrop::new(self);
+        // SAFETY: `new` began the reader, and it is ended once: neither `drop` nor another call of this follows.
+        let told = unsafe { declared::bb_report_end(reader.place.as_mut_ptr()) };
+        // SAFETY: the box isn't used again, and `reader` doesn't drop it.
+        drop(unsafe { std::ptr::read(&reader.place) });
+        as_report(&told)
+    }
+}
+
+impl Default for Reader {
+    fn default() -> Reader {
+        Reader::new()
+    }
+}
+
+impl Drop for Reader {
+    fn drop(&mut self) {
+        // SAFETY: `new` began the reader, and it isn't ended.
+        unsafe { declared::bb_report_end(self.place.as_mut_ptr()) };
+    }
+}
+
+impl fmt::Debug for Reader {
+    fn fmt(&self, f: &mut fmt::Formatter<'_>) -> fmt::Result {
+        f.debug_struct("Reader").finish_non_exhaustive()
+    }
+}
+
+impl io::Write for Reader {
+    fn write(&mut self, piece: &[u8]) -> io::Result<usize> {
+        self.feed(piece);
+        Ok(piece.len())
+    }
+
+    fn flush(&mut self) -> io::Result<()> {
+        Ok(())
+    }
 }
 
 fn left(told: &declared::Tree) -> Option<(u64, Why)> {
@@ -243,6 +443,46 @@ fn left(told: &declared::Tree) -> Option<(u64, Why)> {
         _ => Why::Repeated,
     };
     Some((told.left_line, why))
+}
+
+impl Refusal {
+    /// The number of the refusal; none where memory was refused.
+    #[must_use]
+    pub fn code(&self) -> Option<u32> {
+        match self {
+            Refusal::NoTable(_) => Some(301),
+            Refusal::NoRecord(code) | Refusal::Certificate { code, .. } => Some(*code),
+            Refusal::NoMemory => None,
+        }
+    }
+
+    /// What the refusal means, in words; where there is no table, what the fault of its text means.
+    #[must_use]
+    pub fn meaning(&self) -> &'static str {
+        match self {
+            Refusal::NoTable(fault) => meaning(fault.code),
+            Refusal::NoRecord(code) | Refusal::Certificate { code, .. } => meaning(*code),
+            Refusal::NoMemory => "out of memory",
+        }
+    }
+}
+
+impl NoLedger {
+    /// The number of the refusal; none where memory was refused.
+    #[must_use]
+    pub fn code(&self) -> Option<u32> {
+        match self {
+            NoLedger::BadHeader => Some(404),
+            NoLedger::WrongRoot => Some(405),
+            NoLedger::NoMemory => None,
+        }
+    }
+
+    /// What the refusal means, in words.
+    #[must_use]
+    pub fn meaning(&self) -> &'static str {
+        self.code().map_or("out of memory", meaning)
+    }
 }
 
 impl fmt::Display for Refusal {
@@ -265,11 +505,11 @@ impl fmt::Display for Refusal {
 impl std::error::Error for Refusal {}
 
 impl fmt::Display for NoLedger {
+    /// As `bb report` prints it.
     fn fmt(&self, f: &mut fmt::Formatter<'_>) -> fmt::Result {
-        match self {
-            NoLedger::BadHeader => write!(f, "refused 404"),
-            NoLedger::WrongRoot => write!(f, "refused 405"),
-            NoLedger::NoMemory => write!(f, "out of memory"),
+        match self.code() {
+            Some(code) => write!(f, "refused {code}"),
+            None => write!(f, "out of memory"),
         }
     }
 }

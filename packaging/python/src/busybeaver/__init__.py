@@ -3,23 +3,32 @@
     >>> import busybeaver
     >>> busybeaver.check("1RB1LB_1LA--- H 6 4")
     Answer(outcome=<Outcome.HALTS: 0>, steps=6, ones=4, code=None, table_code=None, place=None, kind='H', says_ones=True)
+    >>> busybeaver.check("1RB1LB_1LA--- H 7").meaning
+    "it doesn't hold for the table"
 
-`check` judges one record, `report` a ledger. Both take text or bytes, any of them, and give what `bb.h` promises; text is
-taken as UTF-8. Where memory is refused they raise `MemoryError`. They let other threads run meanwhile, and threads may
-call side by side.
+`check` judges one record, `check_file` each line of a file, `report` a ledger, by its text, its path or its file, and a
+`Reader` one that comes in pieces. They take text or bytes, any of them, and give what `bb.h` promises; text is taken as UTF-8.
+Where memory is refused they raise `MemoryError`. They let other threads run meanwhile, and threads may call side by side.
 """
 
 import ctypes
 import enum
 import os
-from typing import NamedTuple, Optional, Union
+from typing import BinaryIO, Iterator, NamedTuple, Optional, Tuple, Union
 
-__all__ = ["Answer", "Outcome", "Report", "Status", "Why", "check", "report"]
+__all__ = ["Answer", "Outcome", "Reader", "Report", "Status", "Why", "check", "check_file", "meaning", "report"]
+
+#: The number of the program whose judge this is.
+__version__ = "0.2.0"
 
 # The interface that is declared here: BB_VERSION of bb.h.
-_VERSION = 1
+_VERSION = 2
 _REFUSED = 3
 _NO_MEMORY = 4
+# BB_READER_BYTES of bb.h.
+_READER_BYTES = 1024
+# How many bytes of a file are read at once.
+_PIECE_BYTES = 1 << 20
 
 
 class Outcome(enum.IntEnum):
@@ -68,6 +77,12 @@ class Answer(NamedTuple):
     #: Whether the record says the ones itself.
     says_ones: bool
 
+    @property
+    def meaning(self) -> Optional[str]:
+        """What the number of a refusal means, in words; of a table's text what its fault means."""
+        number = self.table_code or self.code
+        return None if number is None else meaning(number)
+
 
 class Report(NamedTuple):
     """What is said of a ledger. What its status doesn't speak of is None or 0.
@@ -95,6 +110,12 @@ class Report(NamedTuple):
     #: The number of a refusal, 404 or 405.
     code: Optional[int]
 
+    @property
+    def meaning(self) -> Optional[str]:
+        """What the number of a refusal means, in words: of the ledger, or of the line that wasn't kept."""
+        number = self.code or self.left_code
+        return None if number is None else meaning(number)
+
 
 class _Answer(ctypes.Structure):
     _fields_ = [(name, ctypes.c_uint64) for name in ("steps", "ones", "place")] + [
@@ -112,6 +133,10 @@ class _Tree(ctypes.Structure):
     ]
 
 
+class _Room(ctypes.Structure):
+    _fields_ = [("room", ctypes.c_uint64 * (_READER_BYTES // 8))]
+
+
 def _load() -> ctypes.CDLL:
     """The library beside this file, or the one that BUSYBEAVER_LIBRARY names."""
     beside = os.path.join(os.path.dirname(os.path.abspath(__file__)), "libbb.so")
@@ -127,6 +152,14 @@ def _load() -> ctypes.CDLL:
         call = getattr(library, name)
         call.argtypes = [ctypes.c_char_p, ctypes.c_size_t, ctypes.POINTER(told)]
         call.restype = None
+    library.bb_report_begin.argtypes = [ctypes.POINTER(_Room)]
+    library.bb_report_begin.restype = None
+    library.bb_report_feed.argtypes = [ctypes.POINTER(_Room), ctypes.c_char_p, ctypes.c_size_t]
+    library.bb_report_feed.restype = None
+    library.bb_report_end.argtypes = [ctypes.POINTER(_Room)]
+    library.bb_report_end.restype = _Tree
+    library.bb_strerror.argtypes = [ctypes.c_uint32]
+    library.bb_strerror.restype = ctypes.c_char_p
     return library
 
 
@@ -136,15 +169,23 @@ _report = _library.bb_report
 _byref = ctypes.byref
 _OUTCOMES = tuple(Outcome)
 
+_Bytes = Union[bytes, bytearray, memoryview]
 
-def _bytes(text: Union[str, bytes]) -> bytes:
+
+def meaning(code: int) -> str:
+    """What a refusal's number means, in words."""
+    words: bytes = _library.bb_strerror(code)
+    return words.decode("ascii")
+
+
+def _given(text: Union[str, _Bytes]) -> bytes:
     """The bytes of a text, which nobody changes while they are read."""
     return text.encode("utf-8", "surrogateescape") if isinstance(text, str) else bytes(text)
 
 
-def check(text: Union[str, bytes]) -> Answer:
+def check(text: Union[str, _Bytes]) -> Answer:
     """Judges one record, a text without a newline."""
-    given = _bytes(text)
+    given = _given(text)
     told = _Answer()
     _check(given, len(given), _byref(told))
     outcome = told.outcome
@@ -168,11 +209,81 @@ def check(text: Union[str, bytes]) -> Answer:
     )
 
 
-def report(text: Union[str, bytes]) -> Report:
-    """Reports a ledger, by its whole text: every record of it is judged."""
-    given = _bytes(text)
+def check_file(path: Union[str, "os.PathLike[str]"]) -> Iterator[Tuple[bytes, Answer]]:
+    """Judges each line of a file of records: gives the line, without its newline, and its answer."""
+    with open(path, "rb") as file:
+        for line in file:
+            record = line[:-1] if line.endswith(b"\n") else line
+            yield record, check(record)
+
+
+def report(ledger: Union[str, _Bytes, "os.PathLike[str]", BinaryIO]) -> Report:
+    """Reports a ledger: every record of it is judged.
+
+    A text or bytes are the ledger itself; a path, such as a `pathlib.Path`, names its file, and a file that is open for
+    bytes is read to its end. Of a file one piece is in memory at a time.
+    """
+    if isinstance(ledger, os.PathLike):
+        with open(ledger, "rb") as file:
+            return _report_file(file)
+    if hasattr(ledger, "read"):
+        return _report_file(ledger)
+    given = _given(ledger)
     told = _Tree()
     _report(given, len(given), _byref(told))
+    return _as_report(told)
+
+
+def _report_file(file: BinaryIO) -> Report:
+    with Reader() as reader:
+        while piece := file.read(_PIECE_BYTES):
+            reader.feed(piece)
+        return reader.end()
+
+
+class Reader:
+    """A ledger whose text comes in pieces, wherever it is cut: fed in their order, and ended once.
+
+    What the end answers is what `report` says of all that was fed. A reader that isn't ended gives its memory back when it
+    is closed or let go. One thread at a time may use it.
+    """
+
+    def __init__(self) -> None:
+        self._room: Optional[_Room] = _Room()
+        _library.bb_report_begin(_byref(self._room))
+
+    def feed(self, piece: Union[str, _Bytes]) -> None:
+        """Takes one more piece of the text."""
+        if self._room is None:
+            raise ValueError("the reader has ended")
+        given = _given(piece)
+        _library.bb_report_feed(_byref(self._room), given, len(given))
+
+    def end(self) -> Report:
+        """Reports the text, which ends here."""
+        if self._room is None:
+            raise ValueError("the reader has ended")
+        room, self._room = self._room, None
+        return _as_report(_library.bb_report_end(_byref(room)))
+
+    def close(self) -> None:
+        """Gives the memory back, where the reader hasn't ended."""
+        if self._room is not None:
+            room, self._room = self._room, None
+            _library.bb_report_end(_byref(room))
+
+    def __enter__(self) -> "Reader":
+        return self
+
+    def __exit__(self, *exception: object) -> None:
+        self.close()
+
+    def __del__(self) -> None:
+        if getattr(self, "_room", None) is not None:
+            self.close()
+
+
+def _as_report(told: _Tree) -> Report:
     if told.outcome == _NO_MEMORY:
         raise MemoryError
     return Report(

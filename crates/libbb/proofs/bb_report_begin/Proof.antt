@@ -1,0 +1,71 @@
+-- `bb_report_begin` makes a reader, and writes it into the room at the place.
+use Rattle.std.proofs.Common.{[], ◌∷◌, List, refl, sym}
+use Rattle.std.proofs.raw_atomic.Walks.{proved}
+use base.Fraction.{full_share}
+use base.Logic.{id⊢}
+use base.Fml.{ftrue, fex}
+use mir.Val.{Val, vunit}
+use prog.Wp.{WpFn}
+use contract.Monad.{fact}
+use contract.Running.{tables}
+use types.Kit.{‵, raw, ◌⊛◌, some, later, prop, at_ret, ◌$◌, ◌∵◌, !, qed, done, move, drop, use1, use2, split, join, pick, feq_i, fpack, await, rewrite, regoal, suffices, group}
+use types.Run.{enter, of_opd, unit_lit, init, stop, no_more, assigns_last, first, blocks, exec, returns}
+use types.ByLocal.{alloc_all, pass_all, free_all, look_at, get, through, sets, lands_as, env}
+use denote.Exit.{yes}
+use denote.Laws.{Is, shows}
+use denote.Memory.{part_at}
+use denote.RawPtr.{Ptr, RawPtr, block_ptr, lies_at, room_at, in_a_block, rawptr_vals, rawptr_Tells}
+use denote.Signature.{plain}
+use denote.Steps.{nothing, heard, peeks}
+use denote.Triple.Call.{calls_at}
+use denote.Triple.Clauses.{lasts}
+use denote.Triple.Entry.{on_entry}
+use denote.Triple.Spec.{triple_of}
+use denote.Triple.Walked.{Stays, walk_of, stay_dropped, Goes-dropped, ends_at}
+use denote.Triple.Table.{framed}
+use borrow.Table.OneValue.{part_in}
+use Rattle.libbb.specs.Pieces.{HasCome}
+use Rattle.libbb.specs.declared.reader.Reader.{Reader}
+use Rattle.libbb.specs.contracts.reader.Reader.{the_row as R}
+use Rattle.libbb.proofs.reader.Reader.TheLaws.{the_row_laws}
+use Rattle.libbb.specs.contracts.bb_report_begin as f
+use Rattle.libbb.proofs.bb_report_begin.Statement.{statement}
+use Rattle.libbb.proofs.bb_report_begin.Code as code
+use Rattle.libbb.specs.contracts.reader.Reader.new as g
+use Rattle.libbb.proofs.reader.Reader.new.Met.{met}
+
+abbrev stayed : Stays f.ended.signature.params f.ended.kept
+stayed = (stay_dropped _ yes, tt)
+
+pub bb_report_begin_spec : {M : Type 1} → statement M
+bb_report_begin_spec 𝓤 𝓛 𝓜 𝓡 wired =
+    let c = f.clauses 𝓛 𝓜.mem 𝓡.returns in let W = walk_of 𝓛 f.ended stayed c in let 𝓣 = tables 𝓤 𝓛.H 𝓜 𝓡 𝓡.env in
+    proved 𝓛 f.ended stayed c 𝓜 𝓡 (Goes-dropped 𝓛 0 (plain (λ _. RawPtr)) yes (λ κs x w. refl), tt)
+    f.Key.name code.function (code.unfolded 𝓤 𝓛.H 𝓜 𝓡 wired)
+    (λ κs. (rawptr_vals, tt)) (λ κs. (rawptr_Tells, tt)) (λ κs qs bounds a n are.
+    let y : Ptr → W.Ghost = λ p. ((κs, qs, bounds, (p, tt), (rawptr_vals p, tt)), n) in
+    let G = triple_of 𝓛 g.signature (g.spec 𝓛 𝓜.mem 𝓡.returns) in
+    let z : G.Ghost = ((tt, tt, tt, tt, tt), tt) in
+    qed 𝓛 (raw (on_entry 𝓛 f.signature κs qs a (y a.0).0.4) ∷ ‵ (room_at R a.0) ∷ []) ∵ drop ! $
+    in_a_block ! a.0 (λ p. room_at R p) (id⊢ 𝓤 _) (λ b o e.
+    regoal ! (λ p. prop (WpFn 𝓤 𝓛.H 𝓣.C 𝓣.Λ code.function (rawptr_vals p) (W.post (y p)))) e refl $
+    enter ! _ _ _ _ _ $ alloc_all ! (λ l. pass_all ! refl ((tt, tt), tt) $
+    -- [the room; the locals]
+    nothing ! $ nothing ! $ join ! $ nothing ! $ move ! (1 ∷ 0 ∷ []) $ join ! $ use1 𝓛 (raw (G.pre z)) (id⊢ 𝓤 _) $
+    calls_at ! (framed 𝓤 𝓛.H 𝓜 (tables 𝓤 𝓛.H 𝓜 𝓡 𝓡.env)) G (met 𝓤 𝓛 𝓜 𝓡 (code.calls-libbb::reader::Reader::new 𝓡.env wired)) z (no_more !) (λ v.
+    use1 𝓛 (later (some (λ (r : R.Denot). (‵ ftrue ⊛ ‵ (R.own_val r (v ∷ []))) ⊛ some (λ (ws : Unit {0}). ‵ (lasts g.ended tt tt ws) ⊛ raw (fact 𝓤 (HasCome [] r)))))) (id⊢ 𝓤 _) $
+    await ! tt $ pick ! (λ r. split ! $ split ! $ drop ! $
+    peeks ! R (Is R) (shows 𝓛 R) r (v ∷ []) (λ is. let t = ((the_row_laws.lawful 𝓛).typed r (v ∷ []) is).0 in
+    move ! (1 ∷ []) $ pick ! (λ ws. split ! $ drop ! $ heard ! (HasCome [] r) (λ come.
+    -- [what the reader owns; the room; the locals]
+    lands_as ! refl refl t $
+    first ! $ blocks ! $ sets ! (of_opd ! (get ! refl)) refl (tt, tt) $ sets ! (of_opd ! (get ! refl)) refl t $
+    assigns_last ! (of_opd ! (get ! refl)) (through ! refl (stop !)) (init ! 1 refl t) $
+    exec ! 𝓣.C 𝓣.Λ (env code.Mir.locals l) code.Mir.t-3 (at_ret _ (W.post (y (block_ptr b o)))) $
+    sets ! (of_opd ! (unit_lit !)) refl (tt, tt) $
+    returns ! (look_at ! 0 refl) $ free_all ! refl $
+    move ! (1 ∷ 0 ∷ []) $ use2 𝓛 (‵ (part_at R full_share r b o)) (part_in 𝓛 R refl full_share r b o v) $
+    fpack ! (HasCome [] r) (λ _. lies_at R full_share (block_ptr b o) r) come $
+    fpack ! Reader (λ x. fex (HasCome [] x) (λ _. lies_at R full_share (block_ptr b o) x)) r $
+    suffices ! _ (ends_at 𝓛 f.ended stayed c (y (block_ptr b o)) vunit tt (tt, tt) (tt, tt)) $
+    feq_i ! _ (vunit ∷ []) _ refl $ nothing ! $ nothing ! $ join ! $ nothing ! $ group ! 3 $ done !))))))))

@@ -7,6 +7,7 @@ pub mod Settled
 pub mod Merge
 pub mod Carry
 pub mod Passing
+pub mod Gathered
 pub mod GoingOn
 pub mod Retry
 pub mod Reading

@@ -12,6 +12,7 @@
 mod board_report;
 mod carry;
 mod faults;
+mod gathering;
 mod going_on;
 mod ledger_changes;
 mod ledger_report;
@@ -31,6 +32,7 @@ mod tree_reports;
 pub use board_report::{report, status_name};
 pub use carry::{carry_into, cmd_carry};
 pub use faults::by_load;
+pub use gathering::{write_due, write_lines};
 pub use going_on::{cut_off, load_held, open_held};
 pub use ledger_changes::keep_answer;
 pub use ledger_report::{cmd_report, cmd_report_stream, outcome_by, report_board, report_ledger};

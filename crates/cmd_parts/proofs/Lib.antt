@@ -1,4 +1,5 @@
 pub mod Settled
+pub mod Torn
 pub mod Trunks
 pub mod JoinedParts
 pub mod BegunAt

@@ -1,5 +1,5 @@
 -- Tables that are settled one after another: the ledger stays in step, and the tables that are left stay due.
-use Rattle.std.proofs.Common.{IfOk, ◌≡◌, ◌≢◌, ℕ, zero, suc, ◌+◌, Bool, true, false, List, [], ◌∷◌, ◌++◌, length, Option, None, Result, Ok, Err, cond, inl, inr, refl, sym, ◌∙◌, ap, subst, arith, length-append, get_or}
+use Rattle.std.proofs.Common.{IfOk, ◌≡◌, ◌≢◌, ℕ, zero, suc, ◌+◌, Bool, true, false, List, [], ◌∷◌, ◌++◌, length, Option, Some, None, Result, Ok, Err, cond, inl, inr, refl, sym, ◌∙◌, ap, subst, arith, length-append, get_or}
 use Rattle.std.specs.List.{All, AllPairs, Contains, filter}
 use Rattle.std.proofs.lemmas.List.Elements.{All-contains, All-filter, filter_passes, All-contains_itself}
 use Rattle.std.proofs.lemmas.List.Kept.{AllPairs-filter}
@@ -7,6 +7,7 @@ use Rattle.std.proofs.lemmas.Bool.{lt-ltb, ltb-true}
 use Rattle.std.specs.Ordering.{nat_cmp}
 use Rattle.std.specs.declared.cmp.Ordering.TheVariants.{Less}
 use Rattle.std.specs.Cmp.Lexicographic.{slice_cmp}
+use Rattle.std.proofs.lemmas.List.{take_all}
 use Rattle.machine_text.specs.Packed.{Packed}
 use Rattle.machine_text.specs.Text.{text_of}
 use Rattle.cert.specs.Claim.{Recorded}
@@ -18,9 +19,12 @@ use Rattle.ledger.specs.Tally.{AreAll}
 use Rattle.ledger.proofs.Apart.{first_member, first_or_later, later_member}
 use Rattle.ledger.proofs.HeldLaws.{unmarked}
 use Rattle.ledger.proofs.OpenLaws.{open_taken, taken_new}
-use Rattle.cmd_ledgers.specs.Retry.{StaysInStep}
+use Rattle.wire.specs.Device.{grown}
+use Rattle.cmd_ledgers.specs.Gathered.{HasGrown, HasPartOf}
+use Rattle.cmd_ledgers.specs.Retry.{StaysInStep, gained}
+use Rattle.cmd_ledgers.proofs.Gathered.{grown_more, grown_none, one_more_line, part_later}
 use Rattle.cmd_ledgers.proofs.Retrying.{stays_by}
-use Rattle.cmd_parts.specs.Settling.{ComesFirst, IsOpenBelow, LeavesSettled, MayTearLine, SettlesMany, SettlesOne, with_last}
+use Rattle.cmd_parts.specs.Settling.{ComesFirst, IsOpenBelow, LeavesPart, MaySettle, SettlesMany, SettlesOne, with_last}
 use Rattle.cmd_parts.specs.inside.{is_below}
 
 first_before : {X : Type 0} (R : X → X → Type 0) (x : X) (xs : List X) → AllPairs R (x ∷ xs) → All (R x) xs
@@ -48,15 +52,16 @@ module _ (Answers : Packed → Recorded → Type 0) (IsDue : Contents → Packed
     text = one.text;
   }
 
-  pub tears_so : (t : Packed) (old new : Contents) (before after : Option (List ℕ)) → IsDue old t → MayTearLine Answers (λ b q. q ≡ t) old before new after
-      → MayTearLine Answers IsDue old before new after
-  tears_so t old new before after due (inl same) = inl same
-  tears_so t old new before after due (inr h) = inr (record {
-    made = h.made;
-    next = record { due = subst (λ (q : Packed). IsDue old q) (sym h.next.due) due; answered = h.next.answered; fit = h.next.fit };
-    board = h.board;
-    text = h.text;
-  })
+  pub may_so : (t : Packed) (old new : Contents) (before after : Option (List ℕ)) → IsDue old t → MaySettle Answers (λ b q. q ≡ t) old before new after
+      → MaySettle Answers IsDue old before new after
+  may_so t old new before after due (inl same) = inl same
+  may_so t old new before after due (inr one) = inr (due_so t old new before after due one)
+
+  -- what is gathered as the line of a table comes behind a ledger
+  pub one_behind : (old new : Contents) (text : Option (List ℕ)) (lines new_lines : List ℕ) → SettlesOne Answers IsDue old (Some lines) new (Some new_lines) → SettlesOne Answers IsDue old (grown text lines) new (grown text new_lines)
+  one_behind old new text lines new_lines one =
+      let is : new_lines ≡ lines ++ gained old.format one.made = (let is = one.text in cc) in
+      record { made = one.made; next = one.next; board = one.board; text = one_more_line old.format one.made text lines new_lines is }
 
   -- one table more
   pub one_more_settled : (k n : ℕ) (old mid new : Contents) (before text after : Option (List ℕ)) → n ≡ suc k → SettlesMany Answers IsDue k old before mid text
@@ -75,11 +80,41 @@ module _ (Answers : Packed → Recorded → Type 0) (IsDue : Contents → Packed
   many_more_settled k (suc j) n old mid new before text after is many more =
       one_more_settled (k + j) n old more.0 new before more.1 after (omega (arith, is)) (many_more_settled k j (k + j) old mid more.0 before text more.1 refl many more.2) more.3
 
-  -- what is left later is left
-  pub leaves_later : (k : ℕ) (old mid new : Contents) (before text after : Option (List ℕ)) → SettlesMany Answers IsDue k old before mid text
-      → LeavesSettled Answers IsDue mid text new after → LeavesSettled Answers IsDue old before new after
-  leaves_later k old mid new before text after many h =
-      (k + h.0, h.1, h.2, many_more_settled k h.0 (k + h.0) old mid h.1 before text h.2 refl many h.3, h.4)
+  -- the ledger has gained their lines
+  pub many_grown : (k : ℕ) (old new : Contents) (before after : Option (List ℕ)) → SettlesMany Answers IsDue k old before new after → HasGrown before after
+  many_grown zero old new before after none = ([], none.1 ∙ sym (grown_none before))
+  many_grown (suc k) old new before after (mid, text, many, one) =
+      grown_more before text after (many_grown k old mid before text many) (gained mid.format one.made, one.text)
+
+  -- so a ledger that has all of them has a part of them
+  pub part_all : (k : ℕ) (old new : Contents) (before after : Option (List ℕ)) → SettlesMany Answers IsDue k old before new after → LeavesPart Answers IsDue old before new after
+  part_all k old new before after many =
+      let (gains, is) = many_grown k old new before after many in
+      record { count = k; whole = after; many = many; part = record { gains = gains; whole_is = is; begun = (length gains, is ∙ ap (grown before) (sym (take_all (length gains) gains (omega arith)))) } }
+
+  -- where nothing is changed, as many are settled
+  same_settled : (k : ℕ) (old mid new : Contents) (before text after : Option (List ℕ)) → new ≡ mid → after ≡ text → SettlesMany Answers IsDue k old before mid text → SettlesMany Answers IsDue k old before new after
+  same_settled k old mid new before text after same same_text many =
+      subst (λ (b : Contents). SettlesMany Answers IsDue k old before b after) (sym same) (subst (λ (t : Option (List ℕ)). SettlesMany Answers IsDue k old before mid t) (sym same_text) many)
+
+  -- it ends at a table
+  pub part_at : (k : ℕ) (old mid new : Contents) (before held text whole after : Option (List ℕ)) → SettlesMany Answers IsDue k old before mid text → MaySettle Answers IsDue mid text new whole
+      → HasGrown before held → HasPartOf whole held after → LeavesPart Answers IsDue old before new after
+  part_at k old mid new before held text whole after many (inl (same, same_text)) more part =
+      record { count = k; whole = whole; many = same_settled k old mid new before text whole same same_text many; part = part_later before held whole after more part }
+  part_at k old mid new before held text whole after many (inr one) more part =
+      record { count = suc k; whole = whole; many = (mid, text, many, one); part = part_later before held whole after more part }
+
+  -- after some were settled
+  pub part_more : (k : ℕ) (old mid new : Contents) (before text after : Option (List ℕ)) → SettlesMany Answers IsDue k old before mid text → LeavesPart Answers IsDue mid text new after
+      → LeavesPart Answers IsDue old before new after
+  part_more k old mid new before text after many h =
+      record {
+        count = k + h.count;
+        whole = h.whole;
+        many = many_more_settled k h.count (k + h.count) old mid new before text h.whole refl many h.many;
+        part = part_later before text h.whole after (many_grown k old mid before text many) h.part;
+      }
 
   pub one_in_step : (old new : Contents) (before after : Option (List ℕ)) → IsBoard old → SettlesOne Answers IsDue old before new after → StaysInStep old before new after
   one_in_step old new before after board one =

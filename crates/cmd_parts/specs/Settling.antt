@@ -10,6 +10,7 @@ use Rattle.cert.specs.Scored.{with_score}
 use Rattle.ledger.specs.Contents.{Contents, IsOpenOn}
 use Rattle.ledger.specs.Held.{IsFit}
 use Rattle.wire.specs.Device.{IsBegun}
+use Rattle.cmd_ledgers.specs.Gathered.{HasPartOf}
 use Rattle.cmd_ledgers.specs.Retry.{gained, with_line}
 
 -- the open table whose text comes first
@@ -66,9 +67,24 @@ abbrev pub MayTearLine : (Packed → Recorded → Type 0) → (Contents → Pack
 MayTearLine Answers IsDue old before new after =
     ((new ≡ old) × (after ≡ before)) ⊎ TearsLine Answers IsDue old before new after
 
--- and of all: the tables that were settled before stay so
+-- and of all, where the board has no more records than the ledger: the tables that were settled before stay so
 abbrev pub LeavesSettled : (Packed → Recorded → Type 0) → (Contents → Packed → Type 0) → Contents → Option (List ℕ)
     → Contents → Option (List ℕ) → Type 0
 LeavesSettled Answers IsDue old before new after =
     (k : ℕ) × (mid : Contents) × (text : Option (List ℕ)) × SettlesMany Answers IsDue k old before mid text
     × MayTearLine Answers IsDue mid text new after
+
+-- nothing has changed, or a table is settled
+abbrev pub MaySettle : (Packed → Recorded → Type 0) → (Contents → Packed → Type 0) → Contents → Option (List ℕ)
+    → Contents → Option (List ℕ) → Type 0
+MaySettle Answers IsDue old before new after =
+    ((new ≡ old) × (after ≡ before)) ⊎ SettlesOne Answers IsDue old before new after
+
+-- what an early end leaves of a board, and of its ledger, which may be behind it: so many tables are settled, and of what
+-- the ledger was to gain by that it has a beginning
+pub record LeavesPart (Answers : Packed → Recorded → Type 0) (IsDue : Contents → Packed → Type 0) (old : Contents)
+    (before : Option (List ℕ)) (new : Contents) (after : Option (List ℕ)) : Type 0 where
+  pub count : ℕ
+  pub whole : Option (List ℕ)
+  pub many : SettlesMany Answers IsDue count old before new whole
+  pub part : HasPartOf whole before after

@@ -1,6 +1,7 @@
 // `bb settle`: a ledger is gone on with until no table of its board is open.
 ghost use Rattle.std.specs.Prelude.{◌≡◌, ◌⊎◌, ◌++◌, IfErr, IfSome, OnErr, OnOk, List, ℕ};
 ghost use Rattle.std.specs.Io.KnownBytes.{Appends};
+ghost use Rattle.ledger.specs.Contents.{Contents};
 ghost use Rattle.ledger.specs.LedgerText.{IsLedgerOf, ReadsIn};
 ghost use Rattle.cmd_ledgers.specs.Retry.{AtSomeTime};
 ghost use Rattle.cmd_ledgers.specs.GoingOn.{LeavesLedger, MayBeCut, kept_part};
@@ -59,8 +60,8 @@ fn settle_loaded<L: LedgerOut, D: Decider, P: Progress, W: Write>(
         → IfSome (L.text ledger.new) (IsLedgerOf board.new)) }
     ensures silent { IfErr result (λ e. PrintsNothing e (W.contents answers.old) (W.contents answers.new)) }
     ensures leaves { OnErr result (MayBeCut left.now (L.text ledger.old) (L.text ledger.new)
-        ⊎ LeavesSettled (AtSomeTime D D.answers) ComesFirst board.old (kept_part left.now (L.text ledger.old)) board.new
-        (L.text ledger.new)) }
+        ⊎ ((new : Contents) × LeavesSettled (AtSomeTime D D.answers) ComesFirst board.old
+        (kept_part left.now (L.text ledger.old)) new (L.text ledger.new))) }
 {
     cut_off(left, ledger)?;
     let count = settle_board(alloc, board, decider, ledger, progress)?;

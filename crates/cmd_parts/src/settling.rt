@@ -1,5 +1,5 @@
 // Open tables are settled, and their records' lines appended to the ledger.
-ghost use Rattle.std.specs.Prelude.{◌≡◌, ◌≤◌, ◌<◌, ◌+◌, ◌^◌, ◌++◌, IfOk, IfSome, IfNone, OnOk, OnErr, filter, length};
+ghost use Rattle.std.specs.Prelude.{◌≡◌, ◌≤◌, ◌<◌, ◌+◌, ◌^◌, ◌++◌, IfOk, IfSome, IfNone, List, OnOk, OnErr, Option, Some, filter, length, ℕ};
 ghost use Rattle.machine_text.specs.Packed.{Packed};
 ghost use Rattle.cert.specs.Certified.{IsShownBy};
 ghost use Rattle.cert.specs.Kinds.{recorded};
@@ -7,11 +7,13 @@ ghost use Rattle.ledger.specs.Contents.{IsOpenOn};
 ghost use Rattle.ledger.specs.Held.{IsFit};
 ghost use Rattle.ledger.specs.Tally.{AreAll};
 ghost use Rattle.wire.specs.Device.{IsBegun, grown};
+ghost use Rattle.cmd_ledgers.specs.Gathered.{HasGrown, HasPartOf};
 ghost use Rattle.cmd_ledgers.specs.Retry.{AtSomeTime, StaysInStep, gained};
-ghost use Rattle.cmd_parts.specs.Settling.{ComesFirst, IsOpenBelow, LeavesSettled, MayTearLine, SettlesMany, SettlesOne, filled_count, with_last};
+ghost use Rattle.cmd_parts.specs.Settling.{ComesFirst, IsOpenBelow, LeavesPart, MaySettle, SettlesMany, SettlesOne, filled_count, with_last};
 ghost use Rattle.cmd_parts.specs.inside.{is_below};
 
 use cert::{Decided, Decider, Judged, Record};
+use cmd_ledgers::{write_due, write_lines};
 use cmd_options::Ended;
 use files::Progress;
 use kind_evidence::NoMemory;
@@ -21,8 +23,9 @@ use std::alloc::Global;
 use wire::{LedgerOut, append_all};
 
 /// Settles a board: while a table is open, asks the decider for the first in text order, puts the record that it
-/// answers on the board, a holdout's too, and appends its line to the ledger in the ledger's version. Answers how many
-/// tables it settled. What ends it early, refused memory or a ledger that failed, leaves what was settled before.
+/// answers on the board, a holdout's too, and gathers its line for the ledger in the ledger's version; the lines are written
+/// once they are a piece, and at the end. Answers how many tables it settled. What ends it early, refused memory or a ledger
+/// that failed, leaves what was settled before; where the ledger failed, that has a beginning of its lines.
 pub fn settle_board<L: LedgerOut, D: Decider, P: Progress>(
     alloc: Global,
     board: &mut Board,
@@ -34,23 +37,25 @@ pub fn settle_board<L: LedgerOut, D: Decider, P: Progress>(
         board.new (L.text ledger.new)) }
     ensures all { OnOk result ((t : Packed) → IsOpenOn board.new t → ⊥) }
     ensures step { OnOk result (StaysInStep board.old (L.text ledger.old) board.new (L.text ledger.new)) }
-    ensures leaves { OnErr result (LeavesSettled (AtSomeTime D D.answers) ComesFirst board.old (L.text ledger.old)
+    ensures leaves { OnErr result (LeavesPart (AtSomeTime D D.answers) ComesFirst board.old (L.text ledger.old)
         board.new (L.text ledger.new)) }
 {
     let before = record_count(board);
+    let mut lines = Vec::new(alloc);
     while let Some(t) = first_open(board) {
-        settle(alloc, board, decider, &t, ledger)?;
+        settle(alloc, board, decider, &t, &mut lines, ledger, progress)?;
         // The proof needs how many records there can be.
         let _ = board.tally();
         progress.tell(board);
     }
+    write_lines(ledger, &mut lines)?;
     Ok(record_count(board) - before)
 }
 
 /// Settles the open tables of a board that have fewer filled entries than so many, until it has none of them: a round
 /// asks the decider for each that there is, in text order, and puts its record on the board and its line into the
-/// ledger, as `settle_board` does; tables that become open by that come in the next round. Answers how many tables it
-/// settled. What ends it early leaves what was settled before.
+/// ledger, as `settle_board` does, whose lines are all written at its end; tables that become open by that come in the next
+/// round. Answers how many tables it settled. What ends it early leaves what was settled before.
 pub fn settle_below<L: LedgerOut, D: Decider, P: Progress>(
     alloc: Global,
     board: &mut Board,
@@ -63,7 +68,7 @@ pub fn settle_below<L: LedgerOut, D: Decider, P: Progress>(
         (L.text ledger.old) board.new (L.text ledger.new)) }
     ensures all { OnOk result ((t : Packed) → IsOpenOn board.new t → limit ≤ filled_count t) }
     ensures step { OnOk result (StaysInStep board.old (L.text ledger.old) board.new (L.text ledger.new)) }
-    ensures leaves { OnErr result (LeavesSettled (AtSomeTime D D.answers) (IsOpenBelow limit) board.old
+    ensures leaves { OnErr result (LeavesPart (AtSomeTime D D.answers) (IsOpenBelow limit) board.old
         (L.text ledger.old) board.new (L.text ledger.new)) }
 {
     let before = record_count(board);
@@ -91,16 +96,17 @@ fn settle_all<L: LedgerOut, D: Decider, P: Progress>(
     ensures records { OnOk result (length board.new.records ≡ length board.old.records + length due.now) }
     ensures small { OnOk result (0 < length due.now → length board.new.records < 2 ^ 64) }
     ensures step { OnOk result (StaysInStep board.old (L.text ledger.old) board.new (L.text ledger.new)) }
-    ensures leaves { OnErr result (LeavesSettled (AtSomeTime D D.answers) (IsOpenBelow limit) board.old
+    ensures leaves { OnErr result (LeavesPart (AtSomeTime D D.answers) (IsOpenBelow limit) board.old
         (L.text ledger.old) board.new (L.text ledger.new)) }
 {
+    let mut lines = Vec::new(alloc);
     for t in due {
-        settle(alloc, board, decider, t, ledger)?;
+        settle(alloc, board, decider, t, &mut lines, ledger, progress)?;
         // The proof needs how many records there can be.
         let _ = board.tally();
         progress.tell(board);
     }
-    Ok(())
+    write_lines(ledger, &mut lines)
 }
 
 // How many records a board has.
@@ -149,23 +155,51 @@ fn first_open(board: &Board) -> Option<Table>
     }
 }
 
-// Settles an open table.
-fn settle<L: LedgerOut, D: Decider>(
+// Settles an open table. The lines that are gathered are written where they are due, and before anything that ends it early.
+fn settle<L: LedgerOut, D: Decider, P: Progress>(
     alloc: Global,
     board: &mut Board,
     decider: &mut D,
     t: &Table,
+    lines: &mut Vec<u8>,
     ledger: &mut L,
+    progress: &mut P,
 ) -> Result<(), Ended>
     requires { IsOpenOn board.old t.now }
-    ensures ok { OnOk result (SettlesOne (AtSomeTime D D.answers) (λ b q. q ≡ t.now) board.old (L.text ledger.old)
-        board.new (L.text ledger.new)) }
-    ensures step { OnOk result (StaysInStep board.old (L.text ledger.old) board.new (L.text ledger.new)) }
-    ensures leaves { OnErr result (MayTearLine (AtSomeTime D D.answers) (λ b q. q ≡ t.now) board.old (L.text ledger.old)
-        board.new (L.text ledger.new)) }
+    ensures ok { OnOk result (SettlesOne (AtSomeTime D D.answers) (λ b q. q ≡ t.now) board.old
+        (grown (L.text ledger.old) lines.old.items) board.new (grown (L.text ledger.new) lines.new.items)) }
+    ensures grown { OnOk result (HasGrown (L.text ledger.old) (L.text ledger.new)) }
+    ensures step { OnOk result (StaysInStep board.old (grown (L.text ledger.old) lines.old.items) board.new
+        (grown (L.text ledger.new) lines.new.items)) }
+    ensures leaves { OnErr result ((whole : Option (List ℕ))
+        × MaySettle (AtSomeTime D D.answers) (λ b q. q ≡ t.now) board.old
+        (grown (L.text ledger.old) lines.old.items) board.new whole
+        × HasPartOf whole (L.text ledger.old) (L.text ledger.new)) }
 {
     // The proof needs that it is a board.
     let _ = board.root();
+    match decide_next(alloc, board, decider, t, lines) {
+        Ok(()) => write_due(ledger, lines, progress.is_due()),
+        Err(_) => {
+            write_lines(ledger, lines)?;
+            Err(Ended::NoMemory)
+        }
+    }
+}
+
+// Asks the decider for an open table, puts its record on the board, and gathers its line.
+fn decide_next<D: Decider>(
+    alloc: Global,
+    board: &mut Board,
+    decider: &mut D,
+    t: &Table,
+    lines: &mut Vec<u8>,
+) -> Result<(), NoMemory>
+    requires { IsOpenOn board.old t.now }
+    ensures ok { OnOk result (SettlesOne (AtSomeTime D D.answers) (λ b q. q ≡ t.now) board.old
+        (Some lines.old.items) board.new (Some lines.new.items)) }
+    ensures err { OnErr result ((board.new ≡ board.old) × (lines.new.items ≡ lines.old.items)) }
+{
     let Decided {
         record: made,
         judged,
@@ -175,9 +209,7 @@ fn settle<L: LedgerOut, D: Decider>(
         table: made.table,
         certificate: made.certificate.lent(),
     };
-    let mut line = Vec::new(alloc);
-    take(board, &record, judged, &mut line)?;
-    append_line(ledger, &line)
+    take(board, &record, judged, lines)
 }
 
 // Puts a judged record of an open table on a board, and appends its line, with its score in version 2.
@@ -187,7 +219,7 @@ fn take(board: &mut Board, r: &Record, judged: Judged, line: &mut Vec<u8>) -> Re
     ensures fit { OnOk result (IsFit board.old.root board.old.records (recorded r.now)) }
     ensures ok { OnOk result (board.new ≡ with_last board.old (recorded r.now)) }
     ensures line { OnOk result (line.new.items ≡ line.old.items ++ gained board.old.format (recorded r.now)) }
-    ensures err { OnErr result (board.new ≡ board.old) }
+    ensures err { OnErr result ((board.new ≡ board.old) × (line.new.items ≡ line.old.items)) }
 {
     match board.offer_judged_line(r, judged, line) {
         Ok(Taken::New) => Ok(()),

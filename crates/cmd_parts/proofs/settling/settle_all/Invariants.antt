@@ -1,13 +1,16 @@
 use Rattle.std.proofs.Common.{◌≡◌, ℕ, ◌+◌, ◌<◌, ◌≤◌, ◌^◌, length, get_or}
 use Rattle.machine_text.specs.Packed.{Packed}
+use Rattle.wire.specs.Device.{grown}
+use Rattle.cmd_ledgers.specs.Gathered.{HasGrown}
 use Rattle.cmd_ledgers.specs.Retry.{AtSomeTime, StaysInStep}
 use Rattle.cmd_parts.specs.Settling.{IsOpenBelow, SettlesMany}
 use Rattle.cmd_parts.proofs.settling.settle_all.Given as goal
 
--- those before the place were settled, and the others are still due
+-- those before the place were settled, the ledger is only behind by the lines that are gathered, and the others are still due
 abbrev pub invariant-loop-t : goal.invariant-loop-t
-invariant-loop-t g l = SettlesMany (AtSomeTime _ g.D.Decider.answers) (IsOpenBelow l.limit) l.t-index l.fn.board (g.L.LedgerOut.text l.fn.ledger) l.board (g.L.LedgerOut.text l.ledger)
+invariant-loop-t g l = SettlesMany (AtSomeTime _ g.D.Decider.answers) (IsOpenBelow l.limit) l.t-index l.fn.board (g.L.LedgerOut.text l.fn.ledger) l.board (grown (g.L.LedgerOut.text l.ledger) l.lines.items)
     × (length l.board.records ≡ length l.fn.board.records + l.t-index)
     × (0 < l.t-index → length l.board.records < 2 ^ 64)
-    × StaysInStep l.fn.board (g.L.LedgerOut.text l.fn.ledger) l.board (g.L.LedgerOut.text l.ledger)
+    × StaysInStep l.fn.board (g.L.LedgerOut.text l.fn.ledger) l.board (grown (g.L.LedgerOut.text l.ledger) l.lines.items)
+    × HasGrown (g.L.LedgerOut.text l.fn.ledger) (g.L.LedgerOut.text l.ledger)
     × ((k : ℕ) (d : Packed) → l.t-index ≤ k → k < length l.due → IsOpenBelow l.limit l.board (get_or l.due k d))

@@ -2,7 +2,7 @@
 ghost use Rattle.cmd_options.specs.Ranges.{AreWithinRanges};
 
 use crate::call::Call;
-use crate::{folders, ledgers, lines, nodes, pictures, texts, walks, working};
+use crate::{folders, ledgers, lines, nodes, pictures, serving, texts, walks, working};
 use cmd_nodes::{Network, Sockets};
 use cmd_options::{Ended, Options, Outcome, told};
 use files::Disk;
@@ -72,7 +72,8 @@ impl<S: Disk + Clock + Sockets + Network + ReadingTold, R: Read, W: Write, E: Wr
                 beginning,
                 ledger,
                 listening: Some(listening),
-            } => nodes::serve(self, beginning, ledger, listening),
+            } => serving::serve(self, beginning, ledger, listening),
+            Options::CoordPart(coordinating) => serving::serve_ledger(self, coordinating),
             Options::Work(options) => working::work(self, &options),
             Options::Run { settling, ledger } => nodes::run(self, &settling, ledger),
             Options::Walk(walking) => walks::walk(self, &walking),

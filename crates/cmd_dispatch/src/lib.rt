@@ -13,7 +13,9 @@ mod nodes;
 mod obeying;
 mod own_line;
 mod pictures;
+mod serving;
 mod texts;
+mod tokens;
 mod walks;
 mod working;
 

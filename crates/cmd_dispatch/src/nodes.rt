@@ -6,10 +6,8 @@ use crate::call::Call;
 use crate::late::Late;
 use cert::Finders;
 use cmd_json::LinesOrJson;
-use cmd_nodes::{
-    MaybeLedger, Network, Run, Serving, Sockets, by_start, cmd_coord, cmd_loop, cmd_run, serve_tree,
-};
-use cmd_options::{Beginning, Ended, LedgerFile, Listening, Outcome, Search, Settling};
+use cmd_nodes::{MaybeLedger, Run, Sockets, by_start, cmd_coord, cmd_loop, cmd_run};
+use cmd_options::{Beginning, Ended, LedgerFile, Outcome, Search, Settling};
 use files::{Disk, DiskLedger, Files, Held, OnDisk, Opened, held_at, ledger_at, lock_ledger};
 use find_search::{AnyFinder, KnownFile, decider_for};
 use lease_core::Worker;
@@ -43,48 +41,6 @@ pub(crate) fn coord<S: Disk, R: Read, W: Write, E: Write>(
         ..
     } = call;
     Ok(cmd_coord(alloc, beginning, held, &mut ledger, input, answers, faults))
-}
-
-// `bb coord --listen`. It listens before the ledger is begun, so that no ledger is begun where it can't.
-pub(crate) fn serve<S: Disk + Clock + Network, R, W: Write, E: Write>(
-    call: Call<'_, S, R, W, E>,
-    beginning: Beginning,
-    ledger: Option<LedgerFile<'_>>,
-    listening: Listening<'_>,
-) -> Result<Outcome, Ended>
-    requires { IsBeginning beginning }
-{
-    let mut connections = call.system.listen_at(listening.address)?;
-    let Kept {
-        held,
-        mut ledger,
-        lock: _lock,
-    } = Kept::of(call.files(), ledger)?;
-    let Call {
-        alloc,
-        system,
-        answers,
-        faults,
-        ..
-    } = call;
-    let serving = Serving {
-        beginning,
-        form: &LinesOrJson::of(listening.json),
-        clock: system,
-    };
-    let telling = Telling::of(listening.progress, system.tells_terminal());
-    let mut progress = TimedProgress::new(alloc, telling, Work::Tree, system, faults);
-    let ended = serve_tree(
-        alloc,
-        serving,
-        held,
-        &mut ledger,
-        &mut connections,
-        &mut progress,
-        answers,
-    );
-    progress.end();
-    ended
 }
 
 // `bb run`.

@@ -3,8 +3,9 @@ ghost use Rattle.cmd_options.specs.Ranges.{IsWorking};
 
 use crate::call::Call;
 use crate::nodes::{Kept, SearchingWorker, worker_of};
+use crate::tokens::token_of;
 use cmd_ledgers::keep_answer;
-use cmd_nodes::{MaybeLedger, Network, work_at, work_between};
+use cmd_nodes::{Destination, MaybeLedger, Network, work_at, work_between};
 use cmd_options::{Ended, LedgerFile, Outcome, Working, ended_by};
 use files::{Disk, DiskLedger, Held, Opened};
 use peers::Pool;
@@ -26,6 +27,7 @@ pub(crate) fn work<S: Disk + Clock + Network, R: Read, W: Write, E: Write>(
 ) -> Result<Outcome, Ended>
     requires { IsWorking working.now }
 {
+    let token = token_of(call.system, working.token)?;
     let Workers {
         mut pool,
         locks: _locks,
@@ -44,10 +46,17 @@ pub(crate) fn work<S: Disk + Clock + Network, R: Read, W: Write, E: Write>(
                 // Nothing hangs on whether it can be said.
                 let _ = writeln!(faults, "connecting with {address}");
             }
-            work_at(alloc, &mut pool, system, address, working.tries)
+            let to = coordinator_at(address, &token);
+            work_at(alloc, &mut pool, system, to, working.tries)
         }
         None => work_between(alloc, &mut pool, input, answers, system),
     }
+}
+
+// A coordinator at an address, to which this token is shown. A function of its own, since both are lent for as long here.
+fn coordinator_at<'a>(address: &'a str, token: &'a Option<Vec<u8>>) -> Destination<'a> {
+    let token = token.as_deref();
+    Destination { address, token }
 }
 
 // All workers of the process, with ids that follow one another.

@@ -6,3 +6,4 @@ pub mod Peers
 pub mod Roots
 pub mod Steps
 pub mod Settling
+pub mod PartServed

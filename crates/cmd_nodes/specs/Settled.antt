@@ -5,10 +5,15 @@ use Rattle.machine_text.specs.Packed.{empty_table}
 use Rattle.ledger.specs.Contents.{Contents, IsBoard}
 use Rattle.ledger.specs.LedgerText.{IsLedgerOf}
 use Rattle.ledger.specs.Tally.{IsStatus}
+use Rattle.ledger.specs.declared.left.Left.{Left}
 use Rattle.ledger.specs.declared.left.Left.TheVariants.{Nothing}
 use Rattle.ledger.specs.declared.status.Status.{Status}
 use Rattle.cmd_ledgers.specs.LedgerReport.{outcome_by}
+use Rattle.cmd_ledgers.specs.Reading.{IsLoadedFrom}
+use Rattle.cmd_ledgers.specs.Settled.{FormText, ReportsTree}
 use Rattle.files.specs.declared.opened.Opened.{Opened}
+use Rattle.cmd_options.specs.Ends.{PrintsNothing}
+use Rattle.cmd_options.specs.declared.ended.Ended.{Ended}
 use Rattle.cmd_options.specs.declared.outcome.Outcome.{Outcome}
 
 -- what a ledger holds is what was opened of it, to its last byte
@@ -35,3 +40,24 @@ pub record CoordinatesTree (n : ℕ) (IsKept : Contents → Type 0) (o : Outcome
   pub status : Status
   pub stands : IsStatus board.root board.records status
   pub ends : o ≡ outcome_by status Nothing
+
+-- from the ledger that a reader has in its first bytes, of whatever root, a board was loaded, and the report of a board of the
+-- same root is written, whose ledger it is in the end where it was all that the ledger held; the outcome is by how it stands
+pub record ReportsPart (IsText : FormText) (has : Option (List ℕ)) (limit : ℕ)
+    (before after said new_said : Option (List ℕ)) (o : Outcome) : Type 0 where
+  pub loaded : Contents
+  pub left : Left
+  pub loads : IsLoadedFrom has limit loaded left
+  pub board : Contents
+  pub reports : ReportsTree IsText loaded.root (λ b. IsOfLedger has limit before → IfSome after (IsLedgerOf b)) said
+      new_said board
+  pub status : Status
+  pub stands : IsStatus board.root board.records status
+  pub ends : o ≡ outcome_by status Nothing
+
+-- what ends that early ends it before anything is written, unless a stream fails
+abbrev pub SettlesPart : FormText → Option (List ℕ) → ℕ → Option (List ℕ) → Option (List ℕ) → Option (List ℕ)
+    → Option (List ℕ) → Result Outcome Ended → Type 0
+SettlesPart IsText has limit before after said new_said (Ok o) =
+    ReportsPart IsText has limit before after said new_said o
+SettlesPart IsText has limit before after said new_said (Err e) = PrintsNothing e said new_said

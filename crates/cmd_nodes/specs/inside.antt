@@ -5,6 +5,7 @@ use Rattle.std.specs.declared.io.Error.{Error}
 use Rattle.machine_text.specs.Packed.{Packed}
 use Rattle.ledger.specs.Contents.{Contents, IsBoard}
 use Rattle.ledger.specs.Tally.{IsStatus}
+use Rattle.ledger.specs.declared.left.Left.{Left}
 use Rattle.ledger.specs.declared.left.Left.TheVariants.{Nothing}
 use Rattle.ledger.specs.declared.status.Status.{Status}
 use Rattle.wire.specs.Fulfilled.{Answering, Reply}
@@ -13,6 +14,7 @@ use Rattle.lease_core.specs.CoordinatorRules.{Coordinating}
 use Rattle.lease_core.specs.Starts.{InStep}
 use Rattle.files.specs.declared.opened.Opened.{Opened}
 use Rattle.cmd_ledgers.specs.LedgerReport.{outcome_by}
+use Rattle.cmd_ledgers.specs.Reading.{IsLoadedFrom}
 use Rattle.cmd_options.specs.declared.outcome.Outcome.{Outcome}
 use Rattle.cmd_ledgers.specs.Settled.{FormText}
 use Rattle.cmd_nodes.specs.Settled.{IsOfLedger}
@@ -46,6 +48,16 @@ abbrev pub StartsInStep : {F : Type 0} → (F → Option (List ℕ)) → Result 
 StartsInStep remaining (Ok opened) old new c = IsOfLedger (remaining opened.reader) opened.length old
     → IfSome new (InStep c)
 StartsInStep remaining (Err fault) old new c = Unit {0}
+
+-- a coordinator began with the board that was loaded of the ledger that a reader has in its first bytes: it has its root, and
+-- its ledger is in step with it, where that held no more
+pub record StartsPart (has : Option (List ℕ)) (limit : ℕ) (before after : Option (List ℕ))
+    (c : Coordinating) : Type 0 where
+  pub loaded : Contents
+  pub left : Left
+  pub loads : IsLoadedFrom has limit loaded left
+  pub root : IsOfRoot loaded.root c
+  pub step : IsOfLedger has limit before → IfSome after (InStep c)
 
 -- the report of a board is written in a form, and the outcome is by how the board stands
 pub record ReportsBoard (IsText : FormText) (board : Contents) (held new_held : Option (List ℕ))

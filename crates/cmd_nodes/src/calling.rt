@@ -4,7 +4,7 @@ ghost use Rattle.peers.specs.Waiting.{waits_of};
 
 use crate::answerer::{Answered, Answerer};
 use crate::faults::in_memory;
-use crate::network::Network;
+use crate::network::{Destination, Network};
 use crate::pause::Pause;
 use crate::two_streams::TwoStreams;
 use cmd_options::{Ended, Outcome};
@@ -41,37 +41,37 @@ enum Called {
 
 /// Works for the coordinator whose frames come on `input`, and to whom those of the workers go by `output`. Accepted once
 /// each worker was told to stop; `Stream` where a stream ends or fails before that.
-pub fn work_between<N: Node, L: LedgerOut, R: Read, W: Write, C: Clock>(
+pub fn work_between<N: Node, L: LedgerOut, R: Read, W: Write, H: Network + Clock>(
     alloc: Global,
     pool: &mut Pool<N, L>,
     input: &mut R,
     output: &mut W,
-    clock: &C,
+    host: &H,
 ) -> Result<Outcome, Ended>
     ensures { IfOk result (λ o. (o ≡ Outcome.Accepted) × (waits_of pool.new.crew.cores ≡ Waits.Nothing)) }
 {
     let mut stream = TwoStreams { input, output };
-    match converse(alloc, pool, &mut stream, clock)? {
+    match converse(alloc, pool, &mut stream, host)? {
         Parting::Stopped => Ok(Outcome::Accepted),
         Parting::Lost => Err(Ended::Stream),
     }
 }
 
-/// Works for the coordinator that listens at an address. A connection that can't be had, or is lost, is tried again after 1, 2,
-/// 4 seconds and so on, at most a minute, and so is one with something that isn't a coordinator. Accepted once each worker was
-/// told to stop; `Stream` where so many in a row found no coordinator.
+/// Works for a coordinator. A connection that can't be had, or is lost, is tried again after 1, 2, 4 seconds and so on, at most
+/// a minute, and so is one with something that isn't that coordinator. Accepted once each worker was told to stop; `Stream`
+/// where so many in a row found none.
 pub fn work_at<N: Node, L: LedgerOut, H: Network + Clock>(
     alloc: Global,
     pool: &mut Pool<N, L>,
     host: &H,
-    address: &str,
+    to: Destination<'_>,
     tries: u64,
 ) -> Result<Outcome, Ended>
     ensures { IfOk result (λ o. (o ≡ Outcome.Accepted) × (waits_of pool.new.crew.cores ≡ Waits.Nothing)) }
 {
     let mut failed: u64 = 0;
     for _ in 0..u64::MAX {
-        match call_once(alloc, pool, host, address)? {
+        match call_once(alloc, pool, host, to)? {
             Called::Stopped => return Ok(Outcome::Accepted),
             Called::Lost => failed = 1,
             Called::Unanswered => failed = failed.saturating_add(1),
@@ -91,18 +91,18 @@ fn call_once<N: Node, L: LedgerOut, H: Network + Clock>(
     alloc: Global,
     pool: &mut Pool<N, L>,
     host: &H,
-    address: &str,
+    to: Destination<'_>,
 ) -> Result<Called, Ended>
     ensures { result ≡ Ok Called.Stopped → waits_of pool.new.crew.cores ≡ Waits.Nothing }
 {
-    let Ok(stream) = host.call(address) else {
+    let Ok(stream) = host.call(to) else {
         return Ok(Called::Unanswered);
     };
     pool.reconnect();
     let mut answered = Answered::over(alloc, stream);
     match converse(alloc, pool, &mut answered, host)? {
         Parting::Stopped => Ok(Called::Stopped),
-        Parting::Lost => Ok(lost(alloc, host, address, &answered)?),
+        Parting::Lost => Ok(lost(alloc, host, to.address, &answered)?),
     }
 }
 
@@ -122,6 +122,10 @@ fn lost<H: Network, S>(
         }
         Answerer::Nobody => {
             host.remember_loss(address, "the connection was lost before anything came");
+            Ok(Called::Unanswered)
+        }
+        Answerer::Stranger if answered.line().starts_with(b"bb ") => {
+            host.remember_loss(address, "it wants to see a token (--token)");
             Ok(Called::Unanswered)
         }
         Answerer::Stranger => {
@@ -157,16 +161,16 @@ fn wait_after(failed: u64) -> Duration {
 }
 
 // Works over a stream, until each worker is told to stop, or the stream is lost.
-fn converse<N: Node, L: LedgerOut, S: Read + Write, C: Clock>(
+fn converse<N: Node, L: LedgerOut, S: Read + Write, H: Network + Clock>(
     alloc: Global,
     pool: &mut Pool<N, L>,
     stream: &mut S,
-    clock: &C,
+    host: &H,
 ) -> Result<Parting, Ended>
     ensures { result ≡ Ok Parting.Stopped → waits_of pool.new.crew.cores ≡ Waits.Nothing }
 {
     let mut link = MemLink::new(alloc);
-    let mut pause = Pause::new(clock)?;
+    let mut pause = Pause::new(host)?;
     for _ in 0..u64::MAX {
         if pause.is_over()? {
             pause.begin(pool.later_count())?;
@@ -179,7 +183,10 @@ fn converse<N: Node, L: LedgerOut, S: Read + Write, C: Clock>(
         link.clear_sent();
         match pool.waits() {
             Waits::Nothing => return Ok(Parting::Stopped),
-            Waits::Later => pause.wait()?,
+            Waits::Later => {
+                host.tell_idle(pause.is_longest());
+                pause.wait()?;
+            }
             Waits::Answers => {
                 if !hear(pool, stream, &mut link)? {
                     break;

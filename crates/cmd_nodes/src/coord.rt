@@ -13,12 +13,12 @@ ghost use Rattle.cmd_options.specs.Ends.{EndsTold};
 ghost use Rattle.cmd_options.specs.declared.ended.Ended.{Ended as Ends};
 ghost use Rattle.cmd_options.specs.declared.outcome.Outcome.{Outcome as Outcomes};
 ghost use Rattle.cmd_nodes.specs.Settled.{CoordinatesTree, IsOfLedger, KeepsLedger};
-ghost use Rattle.cmd_nodes.specs.inside.{Becomes, IsOfRoot, KeepsStep, StartsInStep};
+ghost use Rattle.cmd_nodes.specs.inside.{Becomes, IsOfRoot, KeepsStep, StartsInStep, StartsPart};
 
 use crate::faults::{by_start, by_turn};
 use crate::held_ledger::HeldLedger;
 use crate::streams::Streams;
-use cmd_ledgers::{keep_answer, outcome_by};
+use cmd_ledgers::{cut_off, keep_answer, load_held, outcome_by};
 use cmd_options::{Beginning, Ended, Outcome, ended_by, told};
 use files::Opened;
 use lease_core::{Coordinator, StartFault};
@@ -109,6 +109,25 @@ fn start<F: Read + Drop, L: LedgerOut>(
     );
     begin_ledger(first, held.fault(), ledger)?;
     Ok(node)
+}
+
+// A coordinator of the board that a ledger has, of whatever root its header names. The ledger is cut to what is kept of it, and
+// so is in step.
+pub(crate) fn start_part<F: Read + Drop, L: LedgerOut>(
+    alloc: Global,
+    era: u64,
+    held: Opened<F>,
+    ledger: &mut L,
+) -> Result<Coordinator, Ended>
+    ensures { IfOk result
+        (StartsPart (F.remaining held.reader) held.length (L.text ledger.old) (L.text ledger.new)) }
+{
+    let (board, left) = load_held(alloc, held)?;
+    cut_off(&left, ledger)?;
+    match Coordinator::holding(alloc, era, board) {
+        Ok(node) => Ok(node),
+        Err(_) => Err(Ended::NoMemory),
+    }
 }
 
 /// Does to a ledger what a node asks for when it has started: `BadHeader` or `WrongRoot` where that was refused so, `fault`

@@ -1,12 +1,12 @@
 // `bb coord --listen`: a coordinator whose workers connect, and then the report.
-ghost use Rattle.std.specs.Prelude.{◌≤◌, OnOk};
+ghost use Rattle.std.specs.Prelude.{◌≤◌, IfOk, OnOk};
 ghost use Rattle.machine_text.specs.Limits.{state_limit};
 ghost use Rattle.machine_text.specs.Packed.{empty_table};
 ghost use Rattle.cmd_ledgers.specs.Settled.{SettlesTree};
-ghost use Rattle.cmd_nodes.specs.Settled.{KeepsLedger};
+ghost use Rattle.cmd_nodes.specs.Settled.{KeepsLedger, SettlesPart};
 ghost use Rattle.cmd_nodes.specs.inside.{Becomes, IsServed, KeepsStep};
 
-use crate::coord::start_coordinator;
+use crate::coord::{start_coordinator, start_part};
 use crate::faults::by_turn;
 use crate::reporting::report_board;
 use crate::rounds::has_open;
@@ -14,42 +14,46 @@ use cmd_ledgers::ReportForm;
 use cmd_options::{Beginning, Ended, Outcome};
 use files::{Opened, Progress};
 use lease_core::Coordinator;
-use peers::{Connections, Peers, serve};
+use peers::{Conduct, Connections, Guarded, Peers, serve};
 use std::alloc::Global;
 use std::io::{self, Read, Write};
-use std::time::{Clock, Instant};
-use wire::{LedgerOut, MAX_PIECE_BYTES, Node, TurnFault};
+use wire::{LedgerOut, Node, TurnFault};
+
+// How many bytes of a worker are taken at once.
+const PIECE_BYTES: usize = 65_536;
 
 // How long a coordinator whose tree is settled waits for workers to ask, so that each is told to stop: as long as a lease
 // lasts, in seconds.
 const LINGER_SECONDS: u64 = 60;
 
+// And how long where none of them says anything.
+const SILENT_SECONDS: u64 = 5;
+
 /// How a coordinator serves workers that connect.
 #[derive(Drop)]
-pub struct Serving<'a, P, C> {
+pub struct Serving<'a, P> {
     /// How it is begun.
     pub beginning: Beginning,
     /// The form of the report.
     pub form: &'a P,
-    /// The clock by which a minute is over.
-    pub clock: &'a C,
+    /// What it takes from them.
+    pub conduct: Conduct,
 }
 
 /// Settles the tree of the empty table by a coordinator and workers that connect, and prints the report in a form: once no
-/// table is open, and each worker is gone or a minute is over. The coordinator's board begins with what `held` reads, and its
-/// records go to `ledger`, each before it is acknowledged. Accepted where the board is complete at the end. How far it is goes
-/// to `progress`.
+/// table is open, and each worker is gone, or none has said anything for 5 seconds, or a minute is over. The coordinator's board
+/// begins with what `held` reads, and its records go to `ledger`, each before it is acknowledged. Accepted where the board is
+/// complete at the end. How far it is goes to `progress`.
 pub fn serve_tree<
     P: ReportForm,
     F: Read + Drop,
     L: LedgerOut,
     K: Connections,
-    C: Clock,
     G: Progress,
     W: Write,
 >(
     alloc: Global,
-    serving: Serving<'_, P, C>,
+    serving: Serving<'_, P>,
     held: io::Result<Opened<F>>,
     ledger: &mut L,
     connections: &mut K,
@@ -61,33 +65,89 @@ pub fn serve_tree<
         (KeepsLedger F.remaining held (L.text ledger.old) (L.text ledger.new))
         (W.contents answers.old) (W.contents answers.new) result }
 {
-    let mut node = start_coordinator(alloc, serving.beginning, held, ledger)?;
-    let Serving { form, clock, .. } = serving;
-    serve_workers(alloc, clock, &mut node, ledger, connections, progress)?;
-    report_board(alloc, form, &node, answers)
+    let node = start_coordinator(alloc, serving.beginning, held, ledger)?;
+    let Serving { form, conduct, .. } = serving;
+    let guarded = served(alloc, node, conduct, ledger, connections, progress)?;
+    let last = guarded.node();
+    report_board(alloc, form, last, answers)
+}
+
+/// How a coordinator serves workers that connect, where it goes on with the ledger of a part.
+#[derive(Drop)]
+pub struct ServingPart<'a, P> {
+    /// What tells its leases from those of an earlier run.
+    pub era: u64,
+    /// The form of the report.
+    pub form: &'a P,
+    /// What it takes from workers.
+    pub conduct: Conduct,
+}
+
+/// Goes on with a ledger, as `bb split` begins one for each part, by a coordinator and workers that connect, and prints the
+/// report of its board in a form, as `serve_tree` does of a whole tree: the root is the one that the ledger's header names.
+/// `held` reads what the ledger holds, which is cut to what is kept of it. Accepted where the board is complete at the end.
+pub fn serve_part<
+    P: ReportForm,
+    F: Read + Drop,
+    L: LedgerOut,
+    K: Connections,
+    G: Progress,
+    W: Write,
+>(
+    alloc: Global,
+    serving: ServingPart<'_, P>,
+    held: Opened<F>,
+    ledger: &mut L,
+    connections: &mut K,
+    progress: &mut G,
+    answers: &mut W,
+) -> Result<Outcome, Ended>
+    ensures { SettlesPart (P.is_text serving.entry.form.now) (F.remaining held.reader) held.length
+        (L.text ledger.old) (L.text ledger.new) (W.contents answers.old) (W.contents answers.new) result }
+{
+    let node = start_part(alloc, serving.era, held, ledger)?;
+    let ServingPart { form, conduct, .. } = serving;
+    let guarded = served(alloc, node, conduct, ledger, connections, progress)?;
+    let last = guarded.node();
+    report_board(alloc, form, last, answers)
+}
+
+// Serves workers that connect with a coordinator, behind a guard for each.
+fn served<L: LedgerOut, K: Connections, G: Progress>(
+    alloc: Global,
+    node: Coordinator,
+    conduct: Conduct,
+    ledger: &mut L,
+    connections: &mut K,
+    progress: &mut G,
+) -> Result<Guarded<Coordinator>, Ended>
+    ensures { IfOk result (λ guarded. IsServed node guarded.node (L.text ledger.old) (L.text ledger.new)) }
+{
+    let mut guarded = Guarded::new(alloc, node, conduct);
+    serve_workers(alloc, &mut guarded, ledger, connections, progress)?;
+    Ok(guarded)
 }
 
 // Takes what comes, until the tree is settled and nobody is left to be told.
-fn serve_workers<L: LedgerOut, K: Connections, C: Clock, G: Progress>(
+fn serve_workers<L: LedgerOut, K: Connections, G: Progress>(
     alloc: Global,
-    clock: &C,
-    node: &mut Coordinator,
+    node: &mut Guarded<Coordinator>,
     ledger: &mut L,
     connections: &mut K,
     progress: &mut G,
 ) -> Result<(), Ended>
-    ensures { OnOk result (IsServed node.old node.new (L.text ledger.old) (L.text ledger.new)) }
+    ensures { OnOk result (IsServed node.old.node node.new.node (L.text ledger.old) (L.text ledger.new)) }
 {
-    let mut piece = [0; MAX_PIECE_BYTES];
+    let mut piece = vec![in alloc; 0; PIECE_BYTES]?;
     let mut peers = Peers::new(alloc);
     let mut settled = None;
     for _ in 0..u64::MAX {
-        if !has_open(node) && (peers.count() == 0 || is_over(clock, &mut settled)?) {
+        if !has_open(node.node()) && (peers.count() == 0 || is_over(node, &mut settled)) {
             break;
         }
         serve_once(connections, &mut piece, &mut peers, node, ledger)?;
         progress.count_workers(peers.count());
-        if let Some(board) = node.board() {
+        if let Some(board) = node.node().board() {
             progress.tell(board);
         }
     }
@@ -99,10 +159,10 @@ fn serve_once<L: LedgerOut, K: Connections>(
     connections: &mut K,
     piece: &mut [u8],
     peers: &mut Peers,
-    node: &mut Coordinator,
+    node: &mut Guarded<Coordinator>,
     ledger: &mut L,
 ) -> Result<(), Ended>
-    ensures { OnOk result (IsServed node.old node.new (L.text ledger.old) (L.text ledger.new)) }
+    ensures { OnOk result (IsServed node.old.node node.new.node (L.text ledger.old) (L.text ledger.new)) }
 {
     match serve_next(connections, piece, peers, node, ledger) {
         Ok(()) => Ok(()),
@@ -115,19 +175,21 @@ fn serve_next<N: Node, L: LedgerOut, K: Connections>(
     connections: &mut K,
     piece: &mut [u8],
     peers: &mut Peers,
-    node: &mut N,
+    node: &mut Guarded<N>,
     ledger: &mut L,
 ) -> Result<(), TurnFault>
-    ensures became { OnOk result (Becomes N.answers node.old node.new) }
-    ensures step { OnOk result (KeepsStep N.in_step node.old node.new (L.text ledger.old) (L.text ledger.new)) }
+    ensures became { OnOk result (Becomes N.answers node.old.node node.new.node) }
+    ensures step { OnOk result
+        (KeepsStep N.in_step node.old.node node.new.node (L.text ledger.old) (L.text ledger.new)) }
 {
     serve(connections, piece, peers, node, ledger, 1)?;
     Ok(())
 }
 
-// Whether a minute is over since this was asked first.
-fn is_over<C: Clock>(clock: &C, since: &mut Option<Instant>) -> io::Result<bool> {
-    let now = Instant::now(clock)?;
-    let start = *since.get_or_insert(now);
-    Ok(now.duration_since(start).as_secs() >= LINGER_SECONDS)
+// Whether workers were waited for long enough, since this was asked first.
+fn is_over<N>(node: &Guarded<N>, settled: &mut Option<u64>) -> bool {
+    let now = node.moment();
+    let since = *settled.get_or_insert(now);
+    now.saturating_sub(since) >= LINGER_SECONDS
+        || now.saturating_sub(since.max(node.heard())) >= SILENT_SECONDS
 }

@@ -3,22 +3,47 @@ use peers::Connections;
 use std::io::{self, Read, Write};
 use std::time::Duration;
 
+/// Whom a coordinator lets in.
+#[derive(Drop)]
+pub struct Admission {
+    /// The token that workers have to show; none where anyone may come.
+    pub token: Option<Vec<u8>>,
+    /// How many connections may come from one address, over TCP.
+    pub per_address: u64,
+}
+
+/// Where a coordinator is called.
+#[derive(Clone, Copy)]
+pub struct Destination<'a> {
+    /// The address at which it listens.
+    pub address: &'a str,
+    /// The token that it has to show, and is shown; none where it may be any.
+    pub token: Option<&'a [u8]>,
+}
+
 /// A network, in which a coordinator listens at an address and workers call it there.
 pub trait Network {
     type Connections: Connections + Drop;
 
     type Stream: Read + Write + Drop;
 
-    /// The workers that connect at an address from now on.
-    fn listen_at(&self, address: &str) -> io::Result<Self::Connections>;
+    /// The bytes of the file of a token. Where others can read it, that is said at a terminal.
+    fn token_at(&self, path: &str) -> io::Result<Vec<u8>>;
 
-    /// A connection with the coordinator that listens at an address. A read for which nothing comes for long ends with
-    /// `WouldBlock`, and so does a write for which nothing is taken.
-    fn call(&self, address: &str) -> io::Result<Self::Stream>;
+    /// The workers that connect at an address from now on, and are let in.
+    fn listen_at(&self, address: &str, admission: Admission) -> io::Result<Self::Connections>;
+
+    /// A connection with a coordinator. A read for which nothing comes for long ends with `WouldBlock`, and so does a write for
+    /// which nothing is taken.
+    fn call(&self, to: Destination<'_>) -> io::Result<Self::Stream>;
 
     /// Remembers why a connection with what listens at an address is of no use any more.
     fn remember_loss(&self, address: &str, why: &str);
 
     /// Says on a terminal what was remembered last of a connection, and after how long it is tried again.
     fn tell_again(&self, wait: Duration);
+
+    /// Whether the workers have come again in vain for so long that they pause for a second: where that is new, it is said on a
+    /// terminal.
+    fn tell_idle(&self, _idle: bool) {}
 }

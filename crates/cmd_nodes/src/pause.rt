@@ -37,6 +37,11 @@ impl<'a, C: Clock> Pause<'a, C> {
         Ok(())
     }
 
+    // Whether none is longer.
+    pub fn is_longest(&self) -> bool {
+        self.milliseconds == MOST_MILLISECONDS
+    }
+
     // The next one begins, after so many workers came again.
     pub fn begin(&mut self, woken: usize) -> io::Result<()> {
         self.milliseconds = if woken > 0 && woken == self.woken {

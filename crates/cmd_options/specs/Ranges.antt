@@ -1,10 +1,12 @@
 -- The ranges of the options' numbers.
 use Rattle.std.specs.Prelude.{◌≡◌, ◌≤◌, None, IfSome}
 use Rattle.cmd_options.specs.declared.options.Options.{Options}
-use Rattle.cmd_options.specs.declared.options.Options.TheVariants.{Check, Decide, Explain, Show, Tables, Coord, Work, Run, Loop, Retry, Merge, Carry, Mend, Split, Settle, Walk, Join, Look, Draw, Page, Report}
+use Rattle.cmd_options.specs.declared.options.Options.TheVariants.{Check, Decide, Explain, Show, Tables, Coord, CoordPart, Work, Run, Loop, Retry, Merge, Carry, Mend, Split, Settle, Walk, Join, Look, Draw, Page, Report}
 use Rattle.cmd_options.specs.declared.options.Search.{Search}
 use Rattle.cmd_options.specs.declared.drawing.Drawing.{Drawing}
 use Rattle.cmd_options.specs.declared.options.Beginning.{Beginning}
+use Rattle.cmd_options.specs.declared.options.Listening.{Listening}
+use Rattle.cmd_options.specs.declared.options.PartCoordinating.{PartCoordinating}
 use Rattle.cmd_options.specs.declared.options.Settling.{Settling}
 use Rattle.cmd_options.specs.declared.options.Splitting.{Splitting}
 use Rattle.cmd_options.specs.declared.options.Walking.{Walking}
@@ -24,6 +26,14 @@ pub record IsBeginning (b : Beginning) : Type 0 where
   pub some_states : 1 ≤ b.states
   pub states : b.states ≤ 7
   pub era : 1 ≤ b.era
+
+pub record IsListening (l : Listening) : Type 0 where
+  pub some_connections : 1 ≤ l.per_address
+  pub connections : l.per_address ≤ 1000
+
+pub record IsPartCoordinating (c : PartCoordinating) : Type 0 where
+  pub era : 1 ≤ c.era
+  pub listening : IsListening c.listening
 
 pub record IsSettling (s : Settling) : Type 0 where
   pub some_states : 1 ≤ s.states
@@ -69,7 +79,8 @@ AreWithinRanges (Decide deciding) = IsWithinRange deciding.search
 AreWithinRanges (Explain json) = Unit {0}
 AreWithinRanges (Show showing) = 1 ≤ showing.every
 AreWithinRanges (Tables listing) = listing.steps ≤ 100000000
-AreWithinRanges (Coord beginning ledger listening) = IsBeginning beginning
+AreWithinRanges (Coord beginning ledger listening) = IsBeginning beginning × IfSome listening IsListening
+AreWithinRanges (CoordPart coordinating) = IsPartCoordinating coordinating
 AreWithinRanges (Work working) = IsWorking working
 AreWithinRanges (Run settling ledger) = IsSettling settling
 AreWithinRanges (Loop settling ledger) = IsSettling settling × (settling.lose ≡ None)

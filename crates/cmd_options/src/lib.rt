@@ -23,10 +23,10 @@ pub use ledger_file::{Durability, LedgerFile};
 pub use number::Number;
 pub use options::{
     Beginning, Carrying, Checking, Deciding, Joining, LedgerSettling, Listening, Listing, Looking,
-    Mending, Merging, Options, Paging, Reporting, Retrying, Saving, Search, Settling, Showing,
-    Splitting, Walking, Working,
+    Mending, Merging, Options, Paging, PartCoordinating, Reporting, Retrying, Saving, Search,
+    Settling, Showing, Splitting, Walking, Working,
 };
 pub use outcome::Outcome;
 pub use std::alloc::AllocError as NoMemory;
 pub use stopped::Stopped;
-pub use version::VERSION;
+pub use version::{VERSION, release};

@@ -19,7 +19,8 @@ pub enum Options<'a> {
     Show(Showing),
     /// `bb tables [--normal] [--steps K] [--records]`
     Tables(Listing),
-    /// `bb coord N [--ledger FILE] [--sync] [--era E] [--listen ADDR [--json] [--progress]]`
+    /// `bb coord N [--ledger FILE] [--sync] [--era E] [--listen ADDR [--token FILE] [--open] [--per-address K]
+    /// [--accept-holdouts] [--json] [--progress]]`
     Coord {
         /// How a coordinator is begun.
         beginning: Beginning,
@@ -28,8 +29,10 @@ pub enum Options<'a> {
         /// Where it listens for workers; none where their frames come on standard input.
         listening: Option<Listening<'a>>,
     },
-    /// `bb work [--connect ADDR [--tries T]] [--id I] [--ids K] [--ledger FILE] [--sync]` and the options of a search of
-    /// `decide`
+    /// `bb coord FILE --listen ADDR` and the options of `bb coord N` but `--ledger`
+    CoordPart(PartCoordinating<'a>),
+    /// `bb work [--connect ADDR [--token FILE] [--tries T]] [--id I] [--ids K] [--ledger FILE] [--sync]` and the options
+    /// of a search of `decide`
     Work(Working<'a>),
     /// `bb run N [--workers W] [--ledger FILE] [--sync] [--lose K] [--rounds R] [--json] [--progress]` and the
     /// options of a search of `decide`
@@ -286,11 +289,28 @@ pub struct Beginning {
     pub era: u64,
 }
 
+/// How a coordinator goes on with the ledger of a part of a tree.
+#[derive(Clone, Copy, Debug, PartialEq, Eq)]
+pub struct PartCoordinating<'a> {
+    /// The ledger of the part: its header names the root.
+    pub file: LedgerFile<'a>,
+    /// The number by which its leases are told from those of an earlier run: 1 or more.
+    pub era: u64,
+    /// How it serves workers.
+    pub listening: Listening<'a>,
+}
+
 /// How a coordinator serves workers that connect with it.
 #[derive(Clone, Copy, Debug, PartialEq, Eq)]
 pub struct Listening<'a> {
     /// Where it listens: `HOST:PORT`, a port of 127.0.0.1, or the path of a socket file, which has a `/`.
     pub address: &'a str,
+    /// The file of the token that workers have to have; none where anyone may come.
+    pub token: Option<&'a str>,
+    /// How many connections may come from one address over TCP: 1 to 1,000.
+    pub per_address: u64,
+    /// Whether records of holdouts are taken without a token too.
+    pub accept_holdouts: bool,
     /// Whether to print the report at the end as JSON.
     pub json: bool,
     /// Whether to tell on standard error, while it goes on, how far it is.
@@ -303,6 +323,8 @@ pub struct Working<'a> {
     /// Where the coordinator listens: `HOST:PORT`, a port of 127.0.0.1, or the path of a socket file, which has a `/`. None
     /// where its frames come on standard input, and those to it go to standard output.
     pub connect: Option<&'a str>,
+    /// The file of the token that the coordinator has to have; none where it may be any.
+    pub token: Option<&'a str>,
     /// How often in a row it is tried to connect: 1 to 1,000,000.
     pub tries: u64,
     /// The id of the first worker, the others have those that follow: at most 4,294,967,232. None where it is drawn by the

@@ -6,7 +6,7 @@ use Rattle.clap.specs.declared.error.kind.ErrorKind.TheVariants.{DisplayHelp, Di
 use Rattle.cmd_options.specs.declared.outcome.Outcome.{Outcome}
 use Rattle.cmd_options.specs.declared.outcome.Outcome.TheVariants.{Accepted, BadLine, NoMemory, Failed}
 use Rattle.cmd_words.specs.declared.line_fault.LineFault.{LineFault}
-use Rattle.cmd_words.specs.declared.line_fault.LineFault.TheVariants.{Refused, PathForNumber, FileForInput, LedgerOfStream, NotText, NoSuchCommand, OutOfRange, KnownFromInput, NoMemory as WantsMemory}
+use Rattle.cmd_words.specs.declared.line_fault.LineFault.TheVariants.{Refused, PathForNumber, FileForInput, LedgerOfStream, OpenToAll, NoTree, SyncOfNothing, NotText, NoSuchCommand, OutOfRange, KnownFromInput, NoMemory as WantsMemory}
 
 -- memory was refused, or a stream failed when the fault was to be said
 abbrev pub EndsGravely : Outcome → Type 0
@@ -23,6 +23,9 @@ EndsUnread (Refused told) o = (IsAskedFor told × (o ≡ Accepted)) ⊎ ((IsAske
 EndsUnread (PathForNumber told) o = (o ≡ BadLine) ⊎ EndsGravely o
 EndsUnread (FileForInput told) o = (o ≡ BadLine) ⊎ EndsGravely o
 EndsUnread LedgerOfStream o = (o ≡ BadLine) ⊎ EndsGravely o
+EndsUnread OpenToAll o = (o ≡ BadLine) ⊎ EndsGravely o
+EndsUnread NoTree o = (o ≡ BadLine) ⊎ EndsGravely o
+EndsUnread SyncOfNothing o = (o ≡ BadLine) ⊎ EndsGravely o
 EndsUnread NotText o = (o ≡ BadLine) ⊎ EndsGravely o
 EndsUnread NoSuchCommand o = (o ≡ BadLine) ⊎ EndsGravely o
 EndsUnread OutOfRange o = (o ≡ BadLine) ⊎ EndsGravely o

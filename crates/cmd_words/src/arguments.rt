@@ -8,6 +8,8 @@ mod rows {
 
     pub(crate) const STATES: Number = ranged! { name: "N", value: None, least: 1, most: 7, default: None,
         help: "How many states the machines have" };
+    pub(crate) const COORDINATED: Text = Text { name: "N|FILE", value: None,
+        help: "How many states the machines have, 1 to 7; with --listen also the ledger of a part, without --ledger" };
     pub(crate) const WORKERS: Number = ranged! { name: "workers", value: Some("W"), least: 1, most: 64,
         default: Some("2"), help: "How many workers there are; all run on one processor (contrib/ uses more)" };
     pub(crate) const LOSE: Number = ranged! { name: "lose", value: Some("K"), least: 2, most: 1_000, default: None,
@@ -18,6 +20,8 @@ mod rows {
         default: Some("1"), help: "Tells this run's leases from those of an earlier one" };
     pub(crate) const TRIES: Number = ranged! { name: "tries", value: Some("T"), least: 1, most: 1_000_000,
         default: Some("20"), help: "Give up where so many tries in a row to connect have failed" };
+    pub(crate) const PER_ADDRESS: Number = ranged! { name: "per-address", value: Some("K"), least: 1, most: 1_000,
+        default: Some("100"), help: "Take so many connections from one address, over TCP" };
     pub(crate) const ID: Number = ranged! { name: "id", value: Some("I"), least: 0, most: 4_294_967_232, default: None,
         help: "The id of the first worker; without it one is drawn by the clock" };
     pub(crate) const IDS: Number = ranged! { name: "ids", value: Some("K"), least: 1, most: 64,
@@ -78,6 +82,10 @@ mod rows {
         help: "Append the records to this file that were dear to find, for --known" };
     pub(crate) const LISTEN: Text = Text { name: "listen", value: Some("ADDR"),
         help: "Serve workers at HOST:PORT, at a port of 127.0.0.1, or at a socket file (its path has a `/`)" };
+    pub(crate) const TOKEN: Text = Text { name: "token", value: Some("FILE"),
+        help: "Take only workers that show the token in this file, of 16 bytes or more" };
+    pub(crate) const WORK_TOKEN: Text = Text { name: "token", value: Some("FILE"),
+        help: "Show the token in this file, and work for no coordinator that doesn't" };
     pub(crate) const CONNECT: Text = Text { name: "connect", value: Some("TO"),
         help: "The coordinator's HOST:PORT, port of 127.0.0.1, or socket file (its path has a `/`)" };
     pub(crate) const WORK_LEDGER: Text = Text { name: "ledger", value: Some("FILE"),
@@ -99,6 +107,10 @@ mod rows {
     pub(crate) const JSON: Flag = Flag { name: "json", needs: &[], excludes: &[], help: "Print the report as JSON" };
     // Without `listen` there is no report.
     pub(crate) const SERVED_JSON: Flag = Flag { needs: &["listen"], ..JSON };
+    pub(crate) const OPEN: Flag = Flag { name: "open", needs: &["listen"], excludes: &["token"],
+        help: "Take anyone, also from other computers" };
+    pub(crate) const ACCEPT_HOLDOUTS: Flag = Flag { name: "accept-holdouts", needs: &["listen"], excludes: &[],
+        help: "Take holdouts of workers without a token too" };
     pub(crate) const LINE_JSON: Flag = Flag { name: "json", needs: &[], excludes: &[],
         help: "Print an object of JSON for each line" };
     pub(crate) const RECORD_WHY: Flag = Flag { name: "why", needs: &[], excludes: &[],

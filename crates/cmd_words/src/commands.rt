@@ -4,7 +4,7 @@ use crate::help::{
     CARRY, COORD, DECIDE, DRAW, EXPLAIN, JOIN, LOOK, LOOP, MEND, MERGE, PAGE, RECORDS, REPORT,
     RETRY, RUN, SETTLE, SHOW, SPLIT, TABLES, WALK, WORK,
 };
-use crate::words::Argument::{self, Flag, Number, Text, TextUnless};
+use crate::words::Argument::{self, Flag, Number, Text, TextUnless, TextWith};
 
 /// A command with its arguments and options, in the order in which help has them.
 pub(crate) struct CommandWords {
@@ -53,11 +53,11 @@ pub(crate) const COMMANDS: [CommandWords; 21] = [
             Flag(PROGRESS)] },
     CommandWords { name: "coord", searches: false, after_help: COORD,
         about: "Answers workers: frames on standard input, a line each, and frames on standard output; or those that connect.",
-        arguments: &[Number(STATES), Text(LISTEN), Text(LEDGER), Flag(LEDGER_SYNC), Number(ERA), Flag(SERVED_JSON),
-            Flag(SERVED_PROGRESS)] },
+        arguments: &[Text(COORDINATED), Text(LISTEN), TextWith(TOKEN, "listen"), Flag(OPEN), Number(PER_ADDRESS), Flag(ACCEPT_HOLDOUTS),
+            Text(LEDGER), Flag(SYNC), Number(ERA), Flag(SERVED_JSON), Flag(SERVED_PROGRESS)] },
     CommandWords { name: "work", searches: true, after_help: WORK,
         about: "Works for a coordinator: looks for the records of the tables that it grants.",
-        arguments: &[Text(CONNECT), Number(TRIES), Number(ID), Number(IDS), Text(WORK_LEDGER), Flag(LEDGER_SYNC)] },
+        arguments: &[Text(CONNECT), TextWith(WORK_TOKEN, "connect"), Number(TRIES), Number(ID), Number(IDS), Text(WORK_LEDGER), Flag(LEDGER_SYNC)] },
     CommandWords { name: "retry", searches: true, after_help: RETRY,
         about: "Tries the holdouts of a ledger again, and prints its report.",
         arguments: &[Text(FILE), Flag(SYNC), Flag(PROGRESS)] },

@@ -97,6 +97,7 @@ fn built<'a>(alloc: Global, argument: &Argument) -> Result<Arg<'a>, NoMemory> {
         Argument::Number(number) => Ok(number_arg(alloc, number)),
         Argument::Text(text) => Ok(text_arg(alloc, text)),
         Argument::TextUnless(text, flag) => text_unless(alloc, text, *flag),
+        Argument::TextWith(text, option) => text_arg(alloc, text).requires_arg(*option),
         Argument::Flag(flag) => flag_arg(alloc, flag),
     }
 }

@@ -55,22 +55,33 @@ or is done.
 With --listen workers connect (`bb work --connect ADDR`), 1,000 at most; a lease that isn't renewed ends after a minute.
 Where the tree is settled each worker is told to stop, and the report is printed, as by `bb report`. Standard error says
 how far it is: at a terminal on one line that is written over, elsewhere with --progress, a line a second.
-Frames aren't encrypted, and nobody is asked who he is; no verdict can be made false by it, since each record is judged
-here. docs/CLUSTER.md has more.
+Frames aren't encrypted. With --token workers and coordinator show one another that they have the same token, before any
+frame; without it anyone who reaches ADDR may come, so an address that other computers reach is refused (`refused 607`)
+unless --open is said. No verdict can be made false by anybody, since each record is judged here. docs/CLUSTER.md has
+more.
 
   bb coord 4 --listen 127.0.0.1:7007 --ledger four.ledger
   bb work --connect 127.0.0.1:7007 --hard
 
+With FILE in place of N it goes on with that ledger: with one of `bb split`, say, whose header names the root of a part.
+So several coordinators share a tree, and `bb join` adds up what they have. FILE has to be there, and it needs --listen.
+
 ADDR is HOST:PORT, a port alone of 127.0.0.1, or the path of a socket file, which has a `/`; with port 0 standard
 error says at which port it listens. A socket file at which nobody listens any more is made anew; whatever else stands
-there stays (`refused 603`). Once no table is open it goes on until each worker is gone, or for a minute. SIGINT and
-SIGTERM end it at once; what was acknowledged stands in the ledger. A ledger is cut or appended to only where that is
-due.
+there stays (`refused 603`). A worker that sends what no worker sends is let go: a line that is no message, a record
+that is refused, or a holdout (TABLE U), which is taken with --token or --accept-holdouts alone. So is one whose first
+line doesn't come within 10 seconds, or of whom nothing comes for an hour; where 1,000 are there, the one that was
+silent longest, for a minute at least, makes room for another. At a terminal it is said who comes, and why one is gone.
+
+The token is what FILE holds, without a newline at its end. Once no table is open the coordinator goes on until each
+worker is gone, or for a minute. SIGINT and SIGTERM end it at once; what was acknowledged stands in the ledger. A ledger
+is cut or appended to only where that is due.
 
 Exit status: 0 at the end the board is complete; 1 it isn't, or the ledger was refused
-(`refused 404` no header with a readable table, `refused 405` another root); 2 a wrong command line;
-3 out of memory (`refused memory`); 4 a stream or the listening failed (`refused 603`), or the ledger did
-(`refused 604`), or another process writes it (`refused 606`).";
+(`refused 404` no header with a readable table, `refused 405` another root); 2 a wrong command line, or an address at
+which anyone could come (`refused 607`); 3 out of memory (`refused memory`); 4 a stream or the listening failed
+(`refused 603`), or the ledger did (`refused 604`), or another process writes it (`refused 606`), or the token couldn't
+be read or has fewer than 16 bytes (`refused 605`).";
 
 pub(crate) const WORK: &str =
     "Frames of the coordinator come on standard input, a line each, and frames to it go to standard output; with --connect
@@ -82,16 +93,17 @@ seconds and so on, up to a minute.
   bb work --connect coordinator.example:7007 --hard
   bb work --connect /tmp/bb.socket --id 17 --ids 16
 
-What answers, and isn't a coordinator, counts as a try in vain: there are --tries in a row, 20 unless that is said. At
-a terminal it is said where it connects, and why a try was in vain. SIGINT and SIGTERM end it at once; what wasn't
+What answers, and isn't a coordinator, counts as a try in vain, and so does one that doesn't show the token of --token:
+there are --tries in a row, 20 unless that is said. At a terminal it is said where it connects, and why a try was in
+vain. SIGINT and SIGTERM end it at once; what wasn't
 handed in is found again, or stands in a ledger of its own. Of several workers --ledger FILE means FILE.1, FILE.2 and
 so on.
 
 Exit status: 0 each worker was told to stop, since the tree is settled; 1 a ledger was refused (`refused 404` no header
 with a readable table, `refused 405` its table doesn't name its states in order); 2 a wrong command line; 3 out of
 memory (`refused memory`); 4 the stream ended or failed before that, or the connection couldn't be had (`refused 603`),
-or a ledger failed (`refused 604`), or another process writes it (`refused 606`), or known records couldn't be read
-(`refused 605`).";
+or a ledger failed (`refused 604`), or another process writes it (`refused 606`), or known records or the token couldn't
+be read, or that has fewer than 16 bytes (`refused 605`).";
 
 pub(crate) const RUN: &str =
     "A coordinator grants tables to workers; each looks for certificates as `bb decide` does, and the coordinator

@@ -6,8 +6,10 @@
 //! be read.
 #![tactic(auto)]
 
+mod addresses;
 mod arguments;
 mod commands;
+mod coordinating;
 mod grammar;
 mod help;
 mod line_fault;

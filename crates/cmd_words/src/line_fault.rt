@@ -8,9 +8,10 @@ use std::alloc::{AllocFailed, Global};
 use std::io::{self, Write};
 use thiserror::Error as Fault;
 
-/// Why there are no options: clap refused the words, also for a path where a number belongs or where lines are read on
-/// standard input, or was asked for help or the version, the one ledger of a stream was asked for, a word isn't text, clap let through a command or a number
-/// that it should have refused, known records would be read from standard input, or memory was refused.
+/// Why there are no options: clap refused the words (also for a path where a number belongs, or where lines are read on standard
+/// input) or was asked for help or the version; the one ledger of a stream was asked for; a coordinator would listen where anyone
+/// may come, has no tree, or is to wait for the disk without a ledger; a word isn't text; clap let through what it should have
+/// refused; known records would be read from standard input; or memory was refused.
 #[derive(Debug, Drop, Fault)]
 pub enum LineFault {
     #[error("{0}")]
@@ -22,6 +23,12 @@ else behind --ledger.\n")]
     FileForInput(Error),
     #[error("error: --ledger needs a folder: of standard input (`-`) no one ledger is written\n")]
     LedgerOfStream,
+    #[error("refused 607: other computers can reach that address: --token FILE says who may come, --open lets anyone in\n")]
+    OpenToAll,
+    #[error("error: `bb coord` takes a number of states, 1 to 7, or, with --listen and without --ledger, the ledger of a part\n")]
+    NoTree,
+    #[error("error: --sync is of a ledger, which --ledger FILE names\n")]
+    SyncOfNothing,
     #[error("error: a word of the command line isn't UTF-8\n")]
     NotText,
     #[error("error: no such command\n")]
@@ -46,6 +53,9 @@ impl LineFault {
             LineFault::PathForNumber(_)
             | LineFault::FileForInput(_)
             | LineFault::LedgerOfStream
+            | LineFault::OpenToAll
+            | LineFault::NoTree
+            | LineFault::SyncOfNothing
             | LineFault::NotText
             | LineFault::NoSuchCommand
             | LineFault::OutOfRange

@@ -2,22 +2,17 @@
 ghost use Rattle.std.specs.Prelude.{◌≡◌, ◌≤◌, IfOk, IfSome};
 ghost use Rattle.cmd_options.specs.Ranges.{AreWithinRanges, IsSettling, IsWithinRange};
 
-use crate::arguments::{
-    CARRIED, COLUMNS, CONNECT, DAMAGED, DEAR, DRAWN, ERA, EVERY, FILE, FILLED, FIRST, FOLD, FOLDER,
-    FROM, HARD, HEIGHT, HOLDOUTS, ID, IDS, JOIN_READ, JOINED, JSON, KNOWN, LEDGER, LINE_JSON,
-    LISTEN, LOOKED, LOSE, MENDED, MERGED, NORMAL, OLD, PAGED, PICTURES, PNG, PROGRESS, READ,
-    RECORD_WHY, ROOT, ROUNDS, ROWS, RUN_STEPS, SAVE, SECOND, SHOWN, SQUARE, STATES, STEPS, SYNC,
-    TITLE, TRIES, WHY, WIDTH, WITH_RECORDS, WORKERS,
-};
+use crate::arguments::*;
+use crate::coordinating::coord_options;
 use crate::grammar::program;
 use crate::line_fault::LineFault;
 use clap::error::ErrorKind;
 use clap::{ArgMatches, Error};
 use cmd_options::{
-    Beginning, COUNT, Carrying, Checking, DEPTH, Deciding, Drawing, Durability, FAR, GRAM, Joining,
-    LedgerFile, LedgerSettling, Listening, Listing, Looking, Mending, Merging, NoMemory, Number,
-    Options, Paging, RULES, Reporting, Retrying, Saving, Search, Settling, Showing, Splitting,
-    WORDS, Walking, Working,
+    COUNT, Carrying, Checking, DEPTH, Deciding, Drawing, Durability, FAR, GRAM, Joining,
+    LedgerFile, LedgerSettling, Listing, Looking, Mending, Merging, NoMemory, Number, Options,
+    Paging, RULES, Reporting, Retrying, Saving, Search, Settling, Showing, Splitting, WORDS,
+    Walking, Working,
 };
 use std::alloc::Global;
 
@@ -152,7 +147,7 @@ fn known_of<'a>(matches: &ArgMatches<'a>) -> Result<Option<&'a str>, LineFault> 
 }
 
 // The number of an option.
-fn number_of(matches: &ArgMatches<'_>, number: Number) -> Result<u64, LineFault>
+pub(crate) fn number_of(matches: &ArgMatches<'_>, number: Number) -> Result<u64, LineFault>
     ensures { IfOk result (λ given. (number.least ≤ given) × (given ≤ number.most)) }
 {
     match matches.get_one::<u64>(number.name) {
@@ -172,13 +167,13 @@ fn number_if_given(matches: &ArgMatches<'_>, number: Number) -> Result<Option<u6
 }
 
 // The ledger that is kept, if one is.
-fn ledger_of<'a>(matches: &ArgMatches<'a>) -> Option<LedgerFile<'a>> {
+pub(crate) fn ledger_of<'a>(matches: &ArgMatches<'a>) -> Option<LedgerFile<'a>> {
     let path = matches.get_str(LEDGER.name)?;
     Some(written_of(matches, path))
 }
 
 // The ledger at a path, as it is to be written.
-fn written_of<'a>(matches: &ArgMatches<'a>, path: &'a str) -> LedgerFile<'a> {
+pub(crate) fn written_of<'a>(matches: &ArgMatches<'a>, path: &'a str) -> LedgerFile<'a> {
     let durability = if matches.get_flag(SYNC.name) {
         Durability::Disk
     } else {
@@ -235,34 +230,12 @@ fn tables_options<'a>(tables: &ArgMatches<'a>) -> Result<Options<'a>, LineFault>
     }))
 }
 
-fn coord_options<'a>(coord: &ArgMatches<'a>) -> Result<Options<'a>, LineFault>
-    ensures { IfOk result AreWithinRanges }
-{
-    let beginning = Beginning {
-        states: number_of(coord, STATES)? as u8,
-        era: number_of(coord, ERA)?,
-    };
-    Ok(Options::Coord {
-        beginning,
-        ledger: ledger_of(coord),
-        listening: listening_of(coord),
-    })
-}
-
-// Where a coordinator listens, if it does.
-fn listening_of<'a>(coord: &ArgMatches<'a>) -> Option<Listening<'a>> {
-    Some(Listening {
-        address: coord.get_str(LISTEN.name)?,
-        json: coord.get_flag(JSON.name),
-        progress: coord.get_flag(PROGRESS.name),
-    })
-}
-
 fn work_options<'a>(work: &ArgMatches<'a>) -> Result<Options<'a>, LineFault>
     ensures { IfOk result AreWithinRanges }
 {
     Ok(Options::Work(Working {
         connect: work.get_str(CONNECT.name),
+        token: work.get_str(WORK_TOKEN.name),
         tries: number_of(work, TRIES)?,
         first_id: first_id_of(work)?,
         workers: number_of(work, IDS)? as u8,

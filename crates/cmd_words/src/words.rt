@@ -8,6 +8,8 @@ pub(crate) enum Argument {
     Text(Text),
     /// A text that is given where the flag of the name isn't, and only there.
     TextUnless(Text, &'static str),
+    /// A text that can be given only where the option of the name is.
+    TextWith(Text, &'static str),
     Flag(Flag),
 }
 

@@ -70,6 +70,7 @@ fn path_in<'a>(asked: &Options<'a>) -> Option<&'a str> {
         | Options::Tables(_)
         | Options::Draw(_)
         | Options::Coord { .. }
+        | Options::CoordPart(_)
         | Options::Merge(_)
         | Options::Carry(_)
         | Options::Mend(_)

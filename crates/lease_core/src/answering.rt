@@ -13,8 +13,12 @@ use crate::plain_answers::{noted, refused, sent};
 use cert::Record;
 use leases::LeasedBoard;
 use ledger::{OfferFault, Taken};
+use machine_text::TEXT_BYTES;
 use std::alloc::Global;
 use wire::{Event, Msg, NodeFault, Note, Out, decode};
+
+// Room for the line of most records: a table, a letter and some numbers.
+const LINE_BYTES: usize = 32 + TEXT_BYTES;
 
 // Where memory is refused, nothing has changed.
 pub(crate) fn answer(
@@ -87,7 +91,7 @@ fn offer_record(alloc: Global, held: &mut LeasedBoard, r: &Record<'_>) -> Result
     requires { r.now.table.states ≡ held.old.board.root.states }
     ensures { GivesOffer held.old (recorded r.now) result held.new }
 {
-    let mut append = Vec::new(alloc);
+    let mut append = Vec::with_capacity(alloc, LINE_BYTES)?;
     let frames = ack_frame(alloc, &r.table)?;
     match held.offer_line(r, &mut append) {
         Ok(Taken::New | Taken::Settled) => Ok(Out {

@@ -5,12 +5,13 @@ ghost use Rattle.wire.specs.Happening.{seen};
 ghost use Rattle.wire.specs.Fulfilled.{text_after};
 ghost use Rattle.leases.specs.Leases.{AreLeases, Leased};
 ghost use Rattle.lease_core.specs.CoordinatorRules.{On};
-ghost use Rattle.lease_core.specs.Starts.{Starts, StartsFrom, InStep};
+ghost use Rattle.lease_core.specs.Starts.{Starts, StartsFrom, InStep, started};
 ghost use Rattle.lease_core.specs.inside.Begun.{HoldsBoard, coordinator_of, answer_of};
 
 use crate::answering::answer;
 use crate::start_fault::StartFault;
 use crate::starting::{begun, begun_from};
+use kind_evidence::NoMemory;
 use leases::LeasedBoard;
 use ledger::Board;
 use std::alloc::Global;
@@ -72,6 +73,20 @@ impl Coordinator {
         ensures { StartsFrom n era (R.remaining from.old) limit (R.remaining from.new) result.0 result.1 }
     {
         Coordinator::of(alloc, era, begun_from(alloc, n, from, limit))
+    }
+
+    /// A coordinator that goes on with a board, of whatever root: that of a part of a tree, as it was loaded, say. Its ledger
+    /// has to be in step with it. It has no leases yet; `era` tells them from those of an earlier run. `NoMemory` where there is
+    /// no room for the board's open tables.
+    pub fn holding(alloc: Global, era: u64, board: Board) -> Result<Coordinator, NoMemory>
+        ensures { IfOk result (λ new. new ≡ started era board) }
+    {
+        Ok(Coordinator {
+            alloc,
+            era,
+            held: Some(LeasedBoard::new(alloc, board)?),
+            stopped: false,
+        })
     }
 
     // A coordinator of a board, or a stopped one where a start is refused.

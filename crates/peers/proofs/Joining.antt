@@ -41,8 +41,8 @@ silent place said came replies new no_bytes no_answers is =
     }
 
 -- a piece comes from it
-module _ {N : Type 0} (answers : Answering N) (old new : Served N) (said piece : List ℕ) (peer next : PeerState) (replies : List Reply)
-    (is : HasSaid said peer) (told : AnswersPiece answers old peer piece replies new next) where
+module _ {N : Type 0} (answers : Answering N) (old new : Served N) (said piece : List ℕ) (peer next : PeerState) (replies handed : List Reply)
+    (is : HasSaid said peer) (told : AnswersPiece answers old peer piece replies handed new next) where
   spoken_lines : events_of (lines_from (Some []) said) ++ map (λ (reply : Reply). reply.to) replies ≡ events_of (lines_from (Some []) (said ++ piece))
   spoken_lines =
       let asked : map (λ (reply : Reply). reply.to) replies ≡ events_of (lines_from (rest_from (Some []) said) piece) =
@@ -57,37 +57,37 @@ module _ {N : Type 0} (answers : Answering N) (old new : Served N) (said piece :
       ∙ ap (λ (rest : BoundedLine). record { waiting = []; rest = rest }) (sym (joins said piece (Some [])).rest)
 
 -- a peer that is there is at one of the places
-place_below : (peers : List (Option PeerState)) (place : ℕ) (peer : PeerState) → peer_at peers place ≡ Some peer → place < length peers
+pub place_below : (peers : List (Option PeerState)) (place : ℕ) (peer : PeerState) → peer_at peers place ≡ Some peer → place < length peers
 place_below peers place peer is = elim (cases_lt place (length peers)) as (λ _. place < length peers) [
   | inl below ↦ below
   | inr past ↦ absurd (let e : None ≡ Some peer = sym (get_or_past peers place None past) ∙ is in cc)
 ]
 
 -- what becomes of it: it is gone, or is there
-abbrev StaysOr : (List (Option PeerState)) → ℕ → (PeerState → Type 0) → Type 0
+abbrev pub StaysOr : (List (Option PeerState)) → ℕ → (PeerState → Type 0) → Type 0
 StaysOr peers place P = IsGone peers place ⊎ ((next : PeerState) × (peer_at peers place ≡ Some next) × P next)
 
-says : {N : Type 0} (answers : Answering N) (old : Served N) (came : Incoming) (replies : List Reply) (new : Served N) (place : ℕ) (said : List ℕ)
-    (peer : PeerState) → peer_at old.peers place ≡ Some peer → HasSaid said peer → TakesArrival answers old came replies new
+says : {N : Type 0} (answers : Answering N) (old : Served N) (came : Incoming) (replies handed : List Reply) (new : Served N) (place : ℕ) (said : List ℕ)
+    (peer : PeerState) → peer_at old.peers place ≡ Some peer → HasSaid said peer → TakesArrival answers old came replies handed new
     → StaysOr new.peers place (λ next. Says place said came replies next)
-says {N} answers old Opened replies new place said peer was is (none, e) =
+says {N} answers old Opened replies handed new place said peer was is (none, unhanded, e) =
     inr (
       peer,
       ap (λ (s : Served N). peer_at s.peers place) e ∙ get_or-append old.peers (Some at_first ∷ []) None place (place_below old.peers place peer was) ∙ was,
       silent place said Opened replies peer refl refl is,
     )
-says answers old (Came from piece) replies new place said peer was is (told, kept) =
+says answers old (Came from piece) replies handed new place said peer was is (told, kept) =
     elim (cases_eq from place) as (λ _. StaysOr new.peers place (λ next. Says place said (Came from piece) replies next)) [
       | inl e ↦
-          let here : AnswersWhereThere answers old (Some peer) piece replies new (peer_at new.peers place) =
-          subst (λ (before : Option PeerState). AnswersWhereThere answers old before piece replies new (peer_at new.peers place)) was
-          (subst (λ p. AnswersWhereThere answers old (peer_at old.peers p) piece replies new (peer_at new.peers p)) e told) in
+          let here : AnswersWhereThere answers old (Some peer) piece replies handed new (peer_at new.peers place) =
+          subst (λ (before : Option PeerState). AnswersWhereThere answers old before piece replies handed new (peer_at new.peers place)) was
+          (subst (λ p. AnswersWhereThere answers old (peer_at old.peers p) piece replies handed new (peer_at new.peers p)) e told) in
           inr (
             here.0,
             here.1,
             record {
-              lines = rw (eq-eqb from place e) (spoken_lines answers old new said piece peer here.0 replies is here.2);
-              says = rw (eq-eqb from place e) (spoken_rest answers old new said piece peer here.0 replies is here.2);
+              lines = rw (eq-eqb from place e) (spoken_lines answers old new said piece peer here.0 replies handed is here.2);
+              says = rw (eq-eqb from place e) (spoken_rest answers old new said piece peer here.0 replies handed is here.2);
             },
           )
       | inr other ↦
@@ -98,8 +98,8 @@ says answers old (Came from piece) replies new place said peer was is (told, kep
             silent place said (Came from piece) replies peer (rw (ne_eqb from place other) refl) (rw (ne_eqb from place other) refl) is,
           )
     ]
-says {N} answers old (Gone from) replies new place said peer was is (none, e) =
-    let peers : new.peers ≡ set old.peers from None = ap (λ (s : Served N). s.peers) e in
+says answers old (Gone from) replies handed new place said peer was is (none, leaves) =
+    let peers : new.peers ≡ set old.peers from None = leaves.peers in
     elim (cases_eq from place) as (λ _. StaysOr new.peers place (λ next. Says place said (Gone from) replies next)) [
       | inl here ↦
           let below = place_below old.peers place peer was in
@@ -115,13 +115,13 @@ says {N} answers old (Gone from) replies new place said peer was is (none, e) =
             silent place said (Gone from) replies peer refl refl is,
           )
     ]
-says answers old (Passed moment) replies new place said peer was is ticks =
+says answers old (Passed moment) replies handed new place said peer was is (none, ticks) =
     inr (
       peer,
       ap (λ (ps : List (Option PeerState)). peer_at ps place) ticks.peers ∙ was,
       silent place said (Passed moment) replies peer refl refl is,
     )
-says {N} answers old (Room from) replies new place said peer was is (none, e) =
+says {N} answers old (Room from) replies handed new place said peer was is (none, unhanded, e) =
     inr (
       peer,
       ap (λ (s : Served N). peer_at s.peers place) e ∙ was,
@@ -129,15 +129,16 @@ says {N} answers old (Room from) replies new place said peer was is (none, e) =
     )
 
 -- what is sent to peers changes nothing of what they say
-flushed_there : (asked : Option ℕ) (old new : List (Option PeerState)) (place : ℕ) (peer : PeerState) → Flushes asked old new
-    → peer_at old place ≡ Some peer → (next : PeerState) × (peer_at new place ≡ Some next) × (next.lines ≡ peer.lines)
-flushed_there None old new place peer e was = (peer, ap (λ (ps : List (Option PeerState)). peer_at ps place) e ∙ was, refl)
+pub flushed_there : (asked : Option ℕ) (old new : List (Option PeerState)) (place : ℕ) (peer : PeerState) → Flushes asked old new
+    → peer_at old place ≡ Some peer → (next : PeerState) × (peer_at new place ≡ Some next) × (next.lines ≡ peer.lines) × (next.guard ≡ peer.guard)
+flushed_there None old new place peer e was = (peer, ap (λ (ps : List (Option PeerState)). peer_at ps place) e ∙ was, refl, refl)
 flushed_there (Some to) old new place peer (count, e) was =
-    elim (cases_eq to place) as (λ _. (next : PeerState) × (peer_at new place ≡ Some next) × (next.lines ≡ peer.lines)) [
+    elim (cases_eq to place) as (λ _. (next : PeerState) × (peer_at new place ≡ Some next) × (next.lines ≡ peer.lines) × (next.guard ≡ peer.guard)) [
       | inl here ↦ (
         drained count peer,
         ap (λ (ps : List (Option PeerState)). peer_at ps place) (e ∙ ap (λ p. set old p (drained_at count (peer_at old p))) here)
             ∙ get_or-set_same old place (drained_at count (peer_at old place)) None (place_below old place peer was) ∙ ap (drained_at count) was,
+        refl,
         refl,
       )
       | inr other ↦ (
@@ -145,10 +146,11 @@ flushed_there (Some to) old new place peer (count, e) was =
         ap (λ (ps : List (Option PeerState)). peer_at ps place) e
             ∙ get_or-set_other old to place (drained_at count (peer_at old to)) None (λ e. other (sym e)) ∙ was,
         refl,
+        refl,
       )
     ]
 
-flushed_gone : (asked : Option ℕ) (old new : List (Option PeerState)) (place : ℕ) → Flushes asked old new → IsGone old place → IsGone new place
+pub flushed_gone : (asked : Option ℕ) (old new : List (Option PeerState)) (place : ℕ) → Flushes asked old new → IsGone old place → IsGone new place
 flushed_gone None old new place e gone = subst (λ (ps : List (Option PeerState)). IsGone ps place) (sym e) gone
 flushed_gone (Some to) old new place (count, e) gone =
     let next = drained_at count (peer_at old to) in
@@ -167,12 +169,12 @@ becomes_gone : (old new : List (Option PeerState)) (place : ℕ) (frames : List 
 becomes_gone old new place frames (Adds adds still) gone = still gone
 becomes_gone old new place frames (Leaves none left) gone = left
 
-rounds_gone : {N : Type 0} (answers : Answering N) (old : Served N) (exchanges : List Exchange) (new : Served N) (place : ℕ)
+pub rounds_gone : {N : Type 0} (answers : Answering N) (old : Served N) (exchanges : List Exchange) (new : Served N) (place : ℕ)
     → Rounds answers old exchanges new → IsGone old.peers place → IsGone new.peers place
 rounds_gone {N} answers old [] new place e gone = subst (λ (s : Served N). IsGone s.peers place) (sym e) gone
 rounds_gone answers old (exchange ∷ exchanges) new place (at, (peers, takes, flushes), others) gone =
     let taken = becomes_gone old.peers peers place _
-    (becomes answers old exchange.came exchange.replies (served at.node at.text peers) place takes) gone in
+    (becomes answers old exchange.came exchange.replies exchange.handed (served at.node at.text peers) place takes) gone in
     rounds_gone answers at exchanges new place others (flushed_gone (asker exchange.came) peers at.peers place flushes taken)
 
 goes_on_more : (place : ℕ) (said : List ℕ) (exchange : Exchange) (exchanges : List Exchange) (at new : PeerState)
@@ -203,7 +205,7 @@ goes_on {N} answers old [] new place said before after e was is now =
       says = subst (λ p. HasSaid (said ++ []) p) peer (is ∙ ap (λ (b : List ℕ). record { waiting = []; rest = rest_from (Some []) b }) end);
     }
 goes_on answers old (exchange ∷ exchanges) new place said before after (at, (peers, takes, flushes), others) was is now =
-    elim (says answers old exchange.came exchange.replies (served at.node at.text peers) place said before was is takes) as
+    elim (says answers old exchange.came exchange.replies exchange.handed (served at.node at.text peers) place said before was is takes) as
     (λ _. SaysMore place said (exchange ∷ exchanges) after) [
       | inl gone ↦
           let left = rounds_gone answers at exchanges new place others (flushed_gone (asker exchange.came) peers at.peers place flushes gone) in

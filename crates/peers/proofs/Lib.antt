@@ -3,8 +3,15 @@ pub mod Arrivals
 pub mod Sending
 pub mod Joining
 pub mod Answering
+pub mod Guarding
+pub mod GuardLaws
+pub mod Returning
+pub mod Faults
+pub mod LettingGo
 pub mod Scripts
 pub mod Counting
 pub mod Cores
 pub mod Turns
 pub mod Offers
+mod Sameness
+mod Guests

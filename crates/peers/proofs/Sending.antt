@@ -7,7 +7,7 @@ use Rattle.std.proofs.lemmas.Bool.{cases_eq, cases_lt, ne_eqb, eq-eqb}
 use Rattle.std.proofs.lemmas.List.{take-append-drop, length-set, get_or-set_same, get_or-set_other, set_past, get_or_past}
 use Rattle.std.proofs.lemmas.List.Concat.{flat_map-append}
 use Rattle.wire.specs.Device.{grown}
-use Rattle.wire.specs.Fulfilled.{Answering, Scene, Reply, Fulfilled}
+use Rattle.wire.specs.Fulfilled.{Answering, Reply}
 use Rattle.peers.specs.Connections.{Incoming, Opened, Came, Gone, Passed, Room}
 use Rattle.peers.specs.Peers.{PeerState, at_first, peer_at, due_at, drained_at}
 use Rattle.peers.specs.Served.{Served, Exchange, AnswersWhereThere, TakesArrival, asker, served}
@@ -22,13 +22,6 @@ grown_twice None xs ys = refl
 grown_none : (sent : Option (List ℕ)) → grown sent [] ≡ sent
 grown_none (Some sent) = ap Some (append-nil sent)
 grown_none None = refl
-
--- what answers that are fulfilled send: their frames
-pub fulfilled_sent : {N : Type 0} (answers : Answering N) (old : Scene N) (replies : List Reply) (new : Scene N)
-    → Fulfilled answers old replies new → new.sent ≡ grown old.sent (answer_frames replies)
-fulfilled_sent answers old [] new e = ap (λ s. s.sent) e ∙ sym (grown_none old.sent)
-fulfilled_sent answers old (reply ∷ replies) new (node, given, others) =
-    fulfilled_sent answers _ replies new others ∙ grown_twice old.sent reply.out.frames.items (answer_frames replies)
 
 -- the frames to a place with those of one more exchange
 frames_more : (place : ℕ) (exchanges : List Exchange) (next : Exchange)
@@ -78,43 +71,41 @@ left_any peers from place = elim (cases_eq from place) as (λ _. Becomes peers (
 ]
 
 -- a piece came from the peer at a place
-module _ {N : Type 0} (answers : Answering N) (old new : Served N) (place : ℕ) (piece : List ℕ) (replies : List Reply)
+module _ {N : Type 0} (answers : Answering N) (old new : Served N) (place : ℕ) (piece : List ℕ) (replies handed : List Reply)
     (len : length new.peers ≡ length old.peers) where
   heard : (before after : Option PeerState) → peer_at old.peers place ≡ before → peer_at new.peers place ≡ after
-      → AnswersWhereThere answers old before piece replies new after → Becomes old.peers new.peers place (answer_frames replies)
-  heard None after was is (none, node, text, gone) =
+      → AnswersWhereThere answers old before piece replies handed new after → Becomes old.peers new.peers place (answer_frames replies)
+  heard None after was is (none, unhanded, node, text, gone) =
       subst (λ (rs : List Reply). Becomes old.peers new.peers place (answer_frames rs)) (sym none)
       (stays old.peers new.peers place len (is ∙ gone ∙ sym was))
   heard (Some peer) after was is (next, e, told) =
-      let sent : Some next.due ≡ Some (peer.due ++ answer_frames replies) = fulfilled_sent answers _ replies _ told.whole in
       let due : due_at (peer_at new.peers place) ≡ next.due = ap due_at (is ∙ e) in
       let before : peer.due ≡ due_at (peer_at old.peers place) = ap due_at (sym was) in
-      let more : next.due ≡ peer.due ++ answer_frames replies = cc in
-      Adds (due ∙ more ∙ ap (λ (d : List ℕ). d ++ answer_frames replies) before)
+      Adds (due ∙ told.due ∙ ap (λ (d : List ℕ). d ++ answer_frames replies) before)
       (λ gone. absurd (let e : Some peer ≡ None = sym was ∙ gone.1 in cc))
 
 -- what is added to what waits for the peer at a place by what comes
-pub becomes : {N : Type 0} (answers : Answering N) (old : Served N) (came : Incoming) (replies : List Reply) (new : Served N) (place : ℕ)
-    → TakesArrival answers old came replies new → Becomes old.peers new.peers place (answer_frames (answers_to place came replies))
-becomes {N} answers old Opened replies new place (none, e) =
+pub becomes : {N : Type 0} (answers : Answering N) (old : Served N) (came : Incoming) (replies handed : List Reply) (new : Served N) (place : ℕ)
+    → TakesArrival answers old came replies handed new → Becomes old.peers new.peers place (answer_frames (answers_to place came replies))
+becomes {N} answers old Opened replies handed new place (none, unhanded, e) =
     subst (λ (ps : List (Option PeerState)). Becomes old.peers ps place []) (sym (ap (λ (s : Served N). s.peers) e)) (opened old.peers place)
-becomes answers old (Came from piece) replies new place (told, kept) =
+becomes answers old (Came from piece) replies handed new place (told, kept) =
     elim (cases_eq from place) as (λ _. Becomes old.peers new.peers place (answer_frames (if nat_eq from place then replies else []))) [
       | inl e ↦
           rw (eq-eqb from place e)
-          (heard answers old new place piece replies (ap length kept ∙ length-set old.peers from (peer_at new.peers from))
+          (heard answers old new place piece replies handed (ap length kept ∙ length-set old.peers from (peer_at new.peers from))
           (peer_at old.peers place) (peer_at new.peers place) refl refl
-          (subst (λ p. AnswersWhereThere answers old (peer_at old.peers p) piece replies new (peer_at new.peers p)) e told))
+          (subst (λ p. AnswersWhereThere answers old (peer_at old.peers p) piece replies handed new (peer_at new.peers p)) e told))
       | inr other ↦
           rw (ne_eqb from place other)
           (stays old.peers new.peers place (ap length kept ∙ length-set old.peers from (peer_at new.peers from))
           (ap (λ (ps : List (Option PeerState)). peer_at ps place) kept ∙ get_or-set_other old.peers from place (peer_at new.peers from) None (λ e. other (sym e))))
     ]
-becomes {N} answers old (Gone from) replies new place (none, e) =
-    subst (λ (ps : List (Option PeerState)). Becomes old.peers ps place []) (sym (ap (λ (s : Served N). s.peers) e)) (left_any old.peers from place)
-becomes answers old (Passed moment) replies new place ticks =
+becomes answers old (Gone from) replies handed new place (none, leaves) =
+    subst (λ (ps : List (Option PeerState)). Becomes old.peers ps place []) (sym leaves.peers) (left_any old.peers from place)
+becomes answers old (Passed moment) replies handed new place (none, ticks) =
     stays old.peers new.peers place (ap length ticks.peers) (ap (λ (ps : List (Option PeerState)). peer_at ps place) ticks.peers)
-becomes {N} answers old (Room from) replies new place (none, e) =
+becomes {N} answers old (Room from) replies handed new place (none, unhanded, e) =
     stays old.peers new.peers place (ap (λ (s : Served N). length s.peers) e) (ap (λ (s : Served N). peer_at s.peers place) e)
 
 -- the answers to what came go to what is left for the peer
@@ -238,5 +229,5 @@ pub sent_more : {N : Type 0} (answers : Answering N) (place : ℕ) (exchanges : 
 sent_more answers place exchanges next old at new sent sent' sent'' before one =
     sent_to (asker next.came) place (exchanges ++ (next ∷ [])) old one.peers new.peers sent sent' sent''
     (taken_more place exchanges next old at.peers one.peers (sent place) (sent' place) before
-    (becomes answers at next.came next.replies (served new.node new.text one.peers) place one.takes))
+    (becomes answers at next.came next.replies next.handed (served new.node new.text one.peers) place one.takes))
     one.sends

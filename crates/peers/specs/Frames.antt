@@ -1,8 +1,7 @@
 -- What the frames of a stream between cores and their coordinator are for: which of those that are sent the coordinator
 -- answers, and for whom those are that come.
-use Rattle.std.specs.Prelude.{ℕ, Bool, true, false, List, Some, None, Result, Ok, Err, count_by}
+use Rattle.std.specs.Prelude.{ℕ, ◌==◌, Bool, true, false, if◌then◌else◌, List, Option, Some, None, Result, Ok, Err, count_by, slice_get}
 use Rattle.text.specs.Parts.{parts_of}
-use Rattle.wire.specs.Grammar.{message_of}
 use Rattle.wire.specs.Message.{Message, Ask, Grant, Rec, Ack, Later, Done, Stop}
 use Rattle.wire.specs.declared.message_fault.MsgFault.{MsgFault}
 use Rattle.peers.specs.declared.frames.Sent.{Sent}
@@ -11,16 +10,14 @@ use Rattle.peers.specs.declared.frames.Heard.{Heard}
 use Rattle.peers.specs.declared.frames.Heard.TheVariants.{Answer, Receipt, Other}
 use Rattle.peers.specs.declared.course.Course.TheVariants.{Work, Later as LaterCourse, Stop as StopCourse}
 
--- a message that is sent
-abbrev pub sent_as : Result Message MsgFault → Sent
-sent_as (Ok (Ask id)) = AskSent
-sent_as (Ok (Grant era lease table)) = OtherSent
-sent_as (Ok (Rec r)) = RecordSent
-sent_as (Ok (Ack table)) = OtherSent
-sent_as (Ok (Later table)) = OtherSent
-sent_as (Ok (Done era lease)) = OtherSent
-sent_as (Ok Stop) = OtherSent
-sent_as (Err fault) = OtherSent
+-- a frame that is sent, by its first letter, `A` (65) or `R` (82): a core sends nothing but messages as they are printed, and of
+-- these it sends `ASK`, `REC` and `DONE`
+abbrev pub sent_by_letter : Option ℕ → Sent
+sent_by_letter None = OtherSent
+sent_by_letter (Some letter) = if letter == 65 then AskSent else if letter == 82 then RecordSent else OtherSent
+
+abbrev pub sent_as : List ℕ → Sent
+sent_as frame = sent_by_letter (slice_get frame 0)
 
 abbrev pub is_ask_sent : Sent → Bool
 is_ask_sent AskSent = true
@@ -33,10 +30,10 @@ is_record_sent RecordSent = true
 is_record_sent OtherSent = false
 
 abbrev pub is_ask : List ℕ → Bool
-is_ask frame = is_ask_sent (sent_as (message_of frame))
+is_ask frame = is_ask_sent (sent_as frame)
 
 abbrev pub is_record : List ℕ → Bool
-is_record frame = is_record_sent (sent_as (message_of frame))
+is_record frame = is_record_sent (sent_as frame)
 
 -- how many of some frames, each with its newline, are an `ASK`, and how many a `REC`
 unfoldable pub asks_in : List ℕ → ℕ

@@ -1,5 +1,9 @@
+pub mod Dismissal
 pub mod Connections
 pub mod Waits
+pub mod Limits
+pub mod Guard
+pub mod Guarded
 pub mod Peers
 pub mod Slot
 pub mod Served
@@ -7,7 +11,6 @@ pub mod Sent
 pub mod inside
 pub mod Heard
 pub mod Memory
-pub mod Limits
 pub mod Frames
 pub mod Due
 pub mod Crew
@@ -15,3 +18,4 @@ pub mod Handed
 pub mod Working
 pub mod Hearing
 pub mod Waiting
+pub mod Guest

@@ -1,5 +1,6 @@
 -- Connections in memory.
-use Rattle.std.specs.Prelude.{ℕ, List, [], ◌∷◌, get_or}
+use Rattle.std.specs.Prelude.{ℕ, List, [], ◌∷◌, Option, get_or}
+use Rattle.peers.specs.declared.dismissal.Dismissed.{Dismissed}
 use Rattle.peers.specs.declared.mem_connections.Scripted.{Scripted}
 use Rattle.peers.specs.declared.mem_connections.Scripted.TheVariants.{Opened as ScriptOpened, Came as ScriptCame, Gone as ScriptGone, Passed as ScriptPassed, Room as ScriptRoom}
 use Rattle.peers.specs.Connections.{Incoming, Opened, Came, Gone, Passed, Room}
@@ -12,13 +13,15 @@ scripted (ScriptGone place) = Gone place
 scripted (ScriptPassed moment) = Passed moment
 scripted (ScriptRoom place) = Room place
 
--- all that comes, how much of it has come, what each peer was sent, and how many bytes one takes at once
+-- all that comes, how much of it has come, what each peer was sent, how many bytes one takes at once, and who was to be let
+-- go last
 pub record MemoryConnections : Type 0 where
   pub script : List Incoming
   pub come : ℕ
   pub sent : List (List ℕ)
   pub most : ℕ
   pub failures : ℕ
+  pub dismissed : Option Dismissed
 
 abbrev pub sent_at : MemoryConnections → ℕ → List ℕ
 sent_at connections place = get_or connections.sent place []

@@ -2,17 +2,20 @@
 use Rattle.std.specs.Prelude.{◌≡◌, ℕ, List, [], Option, Some, None, Bool, true, false, drop, get_or, set}
 use Rattle.std.specs.List.{count_by}
 use Rattle.wire.specs.Lines.{Stream}
+use Rattle.peers.specs.declared.dismissal.Dismissal.{Dismissal}
+use Rattle.peers.specs.Guard.{GuardState, fresh}
 
--- a peer: what came of its stream, the bytes that wait to be sent to it, and how often memory for more of them was
--- refused
+-- a peer: what came of its stream, what its guard knows, the bytes that wait to be sent to it, and how often memory for
+-- more of them was refused
 pub record PeerState : Type 0 where
   pub lines : Stream
+  pub guard : GuardState
   pub due : List ℕ
   pub failures : ℕ
 
 -- a peer of which nothing has come
 abbrev pub at_first : PeerState
-at_first = record { lines = record { waiting = []; rest = Some [] }; due = []; failures = 0 }
+at_first = record { lines = record { waiting = []; rest = Some [] }; guard = fresh; due = []; failures = 0 }
 
 -- a peer to which the first bytes that waited were written
 abbrev pub drained : ℕ → PeerState → PeerState
@@ -31,6 +34,11 @@ due_at None = []
 abbrev pub failures_at : Option PeerState → ℕ
 failures_at (Some peer) = peer.failures
 failures_at None = 0
+
+-- why it was let go, if it was
+abbrev pub dismissal_at : Option PeerState → Option Dismissal
+dismissal_at (Some peer) = peer.guard.dismissal
+dismissal_at None = None
 
 -- of one that is gone nothing is left
 abbrev pub drained_at : ℕ → Option PeerState → Option PeerState

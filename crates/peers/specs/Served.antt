@@ -3,78 +3,127 @@ use Rattle.std.specs.Prelude.{◌≡◌, ◌≢◌, ◌⊎◌, ℕ, List, [], �
 use Rattle.wire.specs.declared.node.Out.{Out}
 use Rattle.wire.specs.declared.turned.TurnFault.{TurnFault}
 use Rattle.wire.specs.declared.turned.TurnFault.TheVariants.{LinkFault, NoMemory}
-use Rattle.wire.specs.Happening.{Ticked}
+use Rattle.wire.specs.Happening.{Happening, Ticked}
 use Rattle.wire.specs.Lines.{fed}
-use Rattle.wire.specs.Fulfilled.{Answering, Scene, Reply, Fulfilled, Faulted, scene, kept_text}
+use Rattle.wire.specs.Fulfilled.{Answering, Scene, Reply, BrokenOff, Fulfilled, Faulted, scene, sent_by, kept_text}
 use Rattle.wire.specs.Turned.{TakesPiece, events_of}
+use Rattle.peers.specs.declared.dismissal.Dismissal.{Dismissal}
+use Rattle.peers.specs.declared.dismissal.Dismissed.{Dismissed}
+use Rattle.peers.specs.declared.guarded.Guarded.{Guarded}
 use Rattle.peers.specs.Connections.{Incoming, Opened, Came, Gone, Passed, Room, noted}
-use Rattle.peers.specs.Peers.{PeerState, at_first, peer_at, failures_at, drained_at, KeepsOthers}
+use Rattle.peers.specs.Guard.{Guards, returned}
+use Rattle.peers.specs.Guarded.{StoppedWithin, Through, behind}
+use Rattle.peers.specs.Peers.{PeerState, at_first, dismissal_at, peer_at, failures_at, drained_at, KeepsOthers}
 
--- a node, the text of its ledger, and its peers
+-- a node behind the guards of its peers, the text of its ledger, and the peers
 pub record Served (N : Type 0) : Type 0 where
-  pub node : N
+  pub node : Guarded N
   pub text : Option (List ℕ)
   pub peers : List (Option PeerState)
 
-abbrev pub served : {N : Type 0} → N → Option (List ℕ) → List (Option PeerState) → Served N
+abbrev pub served : {N : Type 0} → Guarded N → Option (List ℕ) → List (Option PeerState) → Served N
 served node text peers = record { node = node; text = text; peers = peers }
 
--- a node and its ledger with a peer, for which answers wait as they are sent
-abbrev pub scene_with : {N : Type 0} → N → Option (List ℕ) → PeerState → Scene N
-scene_with node text peer = scene node text (Some peer.due)
+-- a node behind the guard of a peer, and its ledger, with that peer, for which answers wait as they are sent
+abbrev pub scene_with : {N : Type 0} → Guarded N → Option (List ℕ) → PeerState → Scene (Guarded N)
+scene_with node text peer = scene (behind peer.guard node) text (Some peer.due)
 
--- what comes, and the answers to it, in their order
+-- a node and its ledger, whatever is sent to whom
+abbrev pub unseen : {N : Type 0} → Served N → Scene N
+unseen old = scene old.node.node old.text None
+
+-- what comes; the lines of it, and what their peer is told, in their order; and what the node is handed by it, and its
+-- answers
 pub record Exchange : Type 0 where
   pub came : Incoming
   pub replies : List Reply
+  pub handed : List Reply
 
--- how the taking of a piece from a peer ends, as `TakesPiece` says; one from a peer that is gone is passed over
-abbrev pub Hears : {N : Type 0} → Answering N → (N → Type 0) → N → Option (List ℕ) → Option PeerState → List ℕ
-    → Result (Unit {0}) TurnFault → N → Option (List ℕ) → Option PeerState → Type 0
+-- how the taking of a piece from a peer ends, as `TakesPiece` says, where the node is seen through the guard of that peer;
+-- one from a peer that is gone is passed over
+abbrev pub Hears : {N : Type 0} → Answering N → (N → Type 0) → Guarded N → Option (List ℕ) → Option PeerState → List ℕ
+    → Result (Unit {0}) TurnFault → Guarded N → Option (List ℕ) → Option PeerState → Type 0
 Hears answers is_stopped node text None piece result node' text' left =
     (result ≡ Ok tt) × (node' ≡ node) × (text' ≡ text) × (left ≡ None)
 Hears answers is_stopped node text (Some peer) piece result node' text' left =
     (next : PeerState) × (left ≡ Some next)
-    × TakesPiece answers is_stopped (scene_with node text peer) peer.lines piece result next.lines
-    (scene_with node' text' next)
+    × TakesPiece (Through answers) (StoppedWithin is_stopped) (scene_with node text peer) peer.lines piece result
+    next.lines (scene_with node' text' next)
 
--- each line of a peer that its piece ends was handed to the node, and the answer fulfilled, in their order: first the
--- ledger's part, and then its frames wait for that peer
+-- each line of a peer that its piece ends was taken by its guard, in their order: what the guard makes of it the node was
+-- handed, and the ledger's part of the answer is fulfilled; and what the peer is told waits for it
 pub record AnswersPiece {N : Type 0} (answers : Answering N) (old : Served N) (peer : PeerState) (piece : List ℕ)
-    (replies : List Reply) (new : Served N) (next : PeerState) : Type 0 where
+    (replies handed : List Reply) (new : Served N) (next : PeerState) : Type 0 where
   pub asked : events_of (fed peer.lines piece).waiting ≡ map (λ reply. reply.to) replies
-  pub whole : Fulfilled answers (scene_with old.node old.text peer) replies (scene_with new.node new.text next)
+  pub guarded : Guards old.node.conduct.takes_holdouts old.node.moment peer.guard replies handed next.guard
+  pub whole : Fulfilled answers (unseen old) handed (unseen new)
+  pub due : next.due ≡ peer.due ++ sent_by replies
   pub lines : next.lines ≡ record { waiting = []; rest = (fed peer.lines piece).rest }
+  pub moment : new.node.moment ≡ old.node.moment
+  pub conduct : new.node.conduct ≡ old.node.conduct
 
 -- nothing where the peer is gone
-abbrev pub AnswersWhereThere : {N : Type 0} → Answering N → Served N → Option PeerState → List ℕ → List Reply → Served N
-    → Option PeerState → Type 0
-AnswersWhereThere answers old None piece replies new left =
-    (replies ≡ []) × (new.node ≡ old.node) × (new.text ≡ old.text) × (left ≡ None)
-AnswersWhereThere answers old (Some peer) piece replies new left =
-    (next : PeerState) × (left ≡ Some next) × AnswersPiece answers old peer piece replies new next
+abbrev pub AnswersWhereThere : {N : Type 0} → Answering N → Served N → Option PeerState → List ℕ → List Reply
+    → List Reply → Served N → Option PeerState → Type 0
+AnswersWhereThere answers old None piece replies handed new left =
+    (replies ≡ []) × (handed ≡ []) × (new.node ≡ old.node) × (new.text ≡ old.text) × (left ≡ None)
+AnswersWhereThere answers old (Some peer) piece replies handed new left =
+    (next : PeerState) × (left ≡ Some next) × AnswersPiece answers old peer piece replies handed new next
+
+-- the node is handed something, and nothing else of what stands before it changes
+abbrev pub OnlyNode : {N : Type 0} → Guarded N → Guarded N → Type 0
+OnlyNode old new = new ≡ record old { node = new.node }
+
+-- the frames that give back the leases of a peer; none where it is gone
+abbrev pub returned_at : Option PeerState → List Happening
+returned_at (Some peer) = returned peer.guard.askers
+returned_at None = []
+
+-- a peer leaves: the node is handed the frames that give its leases back, what the ledger gains by them is kept, and
+-- nobody is sent anything. What it began and hasn't ended is no line
+pub record Leaves {N : Type 0} (answers : Answering N) (old : Served N) (place : ℕ) (handed : List Reply)
+    (new : Served N) : Type 0 where
+  pub returned : returned_at (peer_at old.peers place) ≡ map (λ reply. reply.to) handed
+  pub whole : Fulfilled answers (unseen old) handed (unseen new)
+  pub node : OnlyNode old.node new.node
+  pub peers : new.peers ≡ set old.peers place None
 
 -- time has passed: what the ledger gains by it is kept, and nobody is sent anything
-pub record Ticks {N : Type 0} (answers : Answering N) (old : Served N) (moment : ℕ) (replies : List Reply)
+pub record Ticks {N : Type 0} (answers : Answering N) (old : Served N) (moment : ℕ) (handed : List Reply)
     (new : Served N) : Type 0 where
   pub out : Out
-  pub told : replies ≡ record { to = Ticked moment; out = out } ∷ []
-  pub answer : answers old.node (Ticked moment) (Ok out) new.node
+  pub told : handed ≡ record { to = Ticked moment; out = out } ∷ []
+  pub answer : answers old.node.node (Ticked moment) (Ok out) new.node.node
+  pub node : new.node ≡ record old.node { node = new.node.node; moment = moment }
   pub kept : new.text ≡ kept_text out old.text
   pub peers : new.peers ≡ old.peers
 
--- what comes is taken: a new peer gets the next place; a piece is answered to the peer from which it came; what one that
--- is gone began and hasn't ended is no line
-abbrev pub TakesArrival : {N : Type 0} → Answering N → Served N → Incoming → List Reply → Served N → Type 0
-TakesArrival answers old Opened replies new =
-    (replies ≡ []) × (new ≡ record old { peers = old.peers ++ (Some at_first ∷ []) })
-TakesArrival answers old (Came place piece) replies new =
-    AnswersWhereThere answers old (peer_at old.peers place) piece replies new (peer_at new.peers place)
+-- what comes is taken: a new peer gets the next place; a piece is answered to the peer from which it came; one that leaves
+-- gives its leases back
+abbrev pub TakesArrival : {N : Type 0} → Answering N → Served N → Incoming → List Reply → List Reply → Served N → Type 0
+TakesArrival answers old Opened replies handed new =
+    (replies ≡ []) × (handed ≡ []) × (new ≡ record old { peers = old.peers ++ (Some at_first ∷ []) })
+TakesArrival answers old (Came place piece) replies handed new =
+    AnswersWhereThere answers old (peer_at old.peers place) piece replies handed new (peer_at new.peers place)
     × KeepsOthers place old.peers new.peers
-TakesArrival answers old (Gone place) replies new =
-    (replies ≡ []) × (new ≡ record old { peers = set old.peers place None })
-TakesArrival answers old (Passed moment) replies new = Ticks answers old moment replies new
-TakesArrival answers old (Room place) replies new = (replies ≡ []) × (new ≡ old)
+TakesArrival answers old (Gone place) replies handed new = (replies ≡ []) × Leaves answers old place handed new
+TakesArrival answers old (Passed moment) replies handed new = (replies ≡ []) × Ticks answers old moment handed new
+TakesArrival answers old (Room place) replies handed new = (replies ≡ []) × (handed ≡ []) × (new ≡ old)
+
+-- who is dismissed by what comes is let go, once
+abbrev pub let_go : ℕ → Option Dismissal → Option Dismissal → Option Dismissed → Option Dismissed
+let_go place None (Some why) last = Some (record { place = place; why = why })
+let_go place None None last = last
+let_go place (Some was) now last = last
+
+abbrev pub let_go_by : Incoming → List (Option PeerState) → List (Option PeerState) → Option Dismissed
+    → Option Dismissed
+let_go_by Opened old new last = last
+let_go_by (Came place piece) old new last =
+    let_go place (dismissal_at (peer_at old place)) (dismissal_at (peer_at new place)) last
+let_go_by (Gone place) old new last = last
+let_go_by (Passed moment) old new last = last
+let_go_by (Room place) old new last = last
 
 -- the peer to which there may be something to send
 abbrev pub asker : Incoming → Option ℕ
@@ -93,7 +142,7 @@ Flushes (Some place) old new = (count : ℕ) × (new ≡ set old place (drained_
 abbrev pub Round : {N : Type 0} → Answering N → Served N → Exchange → Served N → Type 0
 Round answers old exchange new =
     (peers : List (Option PeerState))
-    × TakesArrival answers old exchange.came exchange.replies (served new.node new.text peers)
+    × TakesArrival answers old exchange.came exchange.replies exchange.handed (served new.node new.text peers)
     × Flushes (asker exchange.came) peers new.peers
 
 -- all that comes is served so, in its order
@@ -112,7 +161,7 @@ noted_if arrived None = arrived
 noted_if arrived (Some came) = noted arrived (came ∷ [])
 
 -- a fault: nothing came; or memory for a new peer was refused; or a piece of a peer was taken as far as the lines that
--- brought it; or time had passed, and the node didn't answer, or the ledger failed
+-- brought it; or a peer left, or time had passed, and the node didn't answer, or the ledger failed
 abbrev pub Fails : {N : Type 0} → Answering N → (N → Type 0) → Served N → Option Incoming → TurnFault → Served N
     → Type 0
 Fails answers is_stopped old None fault new = (fault ≡ LinkFault) × (new ≡ old)
@@ -121,10 +170,13 @@ Fails answers is_stopped old (Some (Came place piece)) fault new =
     Hears answers is_stopped old.node old.text (peer_at old.peers place) piece (Err fault) new.node new.text
     (peer_at new.peers place)
     × KeepsOthers place old.peers new.peers
-Fails answers is_stopped old (Some (Gone place)) fault new = ⊥
+Fails answers is_stopped old (Some (Gone place)) fault new =
+    (fault ≢ LinkFault) × (new.peers ≡ set old.peers place None)
+    × ((left : List Happening)
+    × BrokenOff answers is_stopped (unseen old) (returned_at (peer_at old.peers place)) fault left (unseen new))
 Fails answers is_stopped old (Some (Passed moment)) fault new =
     (fault ≢ LinkFault) × (new.peers ≡ old.peers)
-    × Faulted answers is_stopped (scene old.node old.text None) (Ticked moment) fault (scene new.node new.text None)
+    × Faulted answers is_stopped (unseen old) (Ticked moment) fault (unseen new)
 Fails answers is_stopped old (Some (Room place)) fault new = ⊥
 
 -- the connections have counted a failure, or a peer has

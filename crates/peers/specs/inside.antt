@@ -16,5 +16,5 @@ SendsTo (Some place) old new sent sent' =
 pub record ServesOne {N : Type 0} (answers : Answering N) (old : Served N) (exchange : Exchange) (new : Served N)
     (sent sent' : ℕ → Option (List ℕ)) : Type 0 where
   pub peers : List (Option PeerState)
-  pub takes : TakesArrival answers old exchange.came exchange.replies (served new.node new.text peers)
+  pub takes : TakesArrival answers old exchange.came exchange.replies exchange.handed (served new.node new.text peers)
   pub sends : SendsTo (asker exchange.came) peers new.peers sent sent'

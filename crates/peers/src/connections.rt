@@ -1,5 +1,6 @@
 // What all connections promise.
 use crate::arrival::Arrival;
+use crate::dismissal::Dismissal;
 use wire::Fault;
 
 /// Peers that come and go, and what passes between them and a coordinator. Places are counted from 0 and given to peers
@@ -9,9 +10,10 @@ use wire::Fault;
 /// bounded by what one piece can bring: what keeps this promise is the implementation, which reads no more from that peer
 /// until then, and says by `Arrival::Room` that it takes bytes again.
 pub trait Connections {
-    ghost use Rattle.std.specs.Prelude.{◌≡◌, ◌≢◌, ◌≤◌, ◌∷◌, ℕ, List, [], Option, IfOk, OnErr, length, take};
+    ghost use Rattle.std.specs.Prelude.{◌≡◌, ◌≢◌, ◌≤◌, ◌∷◌, ℕ, List, [], Option, Some, IfOk, OnErr, length, take};
     ghost use Rattle.wire.specs.Device.{grown};
     ghost use Rattle.peers.specs.Connections.{Incoming, FitsIn, incoming, noted};
+    ghost use Rattle.peers.specs.declared.dismissal.Dismissed.{Dismissed};
 
     /// What has come so far, in its order, where that is known.
     ghost arrived: { Self → Option (List Incoming) };
@@ -22,12 +24,16 @@ pub trait Connections {
     /// A count of its failures, by which one is told.
     ghost failures: { Self → ℕ };
 
+    /// The peer that was to be let go last, and why.
+    ghost dismissed: { Self → Option Dismissed };
+
     /// What comes next. It waits for no peer: where nothing comes for a while, it says what time it is. After a fault
     /// nothing is lost.
     fn next_arrival(&mut self, buf: &mut [u8]) -> Result<Arrival, Fault>
         ensures came { IfOk result (λ arrival. FitsIn (length buf.new) arrival
             × (arrived self.new ≡ noted (arrived self.old) (incoming arrival buf.new ∷ []))) }
         ensures sent { (place : ℕ) → sent self.new place ≡ sent self.old place }
+        ensures dismissed { dismissed self.new ≡ dismissed self.old }
         ensures count { IfOk result (λ arrival. failures self.new ≡ failures self.old) }
         ensures err { OnErr result ((failures self.old ≢ failures self.new)
             × (arrived self.new ≡ arrived self.old)) };
@@ -38,6 +44,14 @@ pub trait Connections {
         ensures took { (result ≤ length bytes.now)
             × (sent self.new place ≡ grown (sent self.old place) (take result bytes.now)) }
         ensures others { (other : ℕ) → other ≢ place → sent self.new other ≡ sent self.old other }
+        ensures arrived { arrived self.new ≡ arrived self.old }
+        ensures dismissed { dismissed self.new ≡ dismissed self.old }
+        ensures count { failures self.new ≡ failures self.old };
+
+    /// Lets the peer at a place go: as soon as that can be, it is gone, and that comes as of any other.
+    fn dismiss(&mut self, place: usize, why: Dismissal)
+        ensures dismissed { dismissed self.new ≡ Some (record { place = place; why = why }) }
+        ensures sent { (other : ℕ) → sent self.new other ≡ sent self.old other }
         ensures arrived { arrived self.new ≡ arrived self.old }
         ensures count { failures self.new ≡ failures self.old };
 }

@@ -12,19 +12,32 @@
 //! `ACK` or `LATER` with its table, is for a core that has it. `specs/Handed` says what it means that a core is handed
 //! an event, `specs/Working` what the cores do where there is time, `specs/Hearing` what is made of the lines that
 //! come, and `specs/Waiting` what the pool waits for.
+//!
+//! A [`Guest`] is one who has connected and hasn't shown yet that it has the token, where there is one: `specs/Guest` has
+//! the handshake, and the sums by which each side shows that.
 #![tactic(auto)]
 
+mod alone;
 mod arrival;
+mod asker;
 mod awaited;
+mod conduct;
 mod connections;
 mod course;
 mod crew;
+mod dismissal;
 mod frames;
+mod granted;
+mod guard;
+mod guarded;
+mod guest;
 mod hearing;
 mod laws;
 mod limits;
+mod line_kind;
 mod mem_connections;
 mod outbox;
+mod passage;
 mod peer;
 mod peers;
 mod pool;
@@ -35,10 +48,17 @@ mod waits;
 mod working;
 
 pub use arrival::Arrival;
+pub use conduct::Conduct;
 pub use connections::Connections;
 pub use course::Course;
-pub use laws::{answers_follow, peers_keep_apart};
-pub use limits::MAX_WORK_TURNS;
+pub use dismissal::{Dismissal, Dismissed};
+pub use guard::Guard;
+pub use guarded::Guarded;
+pub use guest::{
+    Digits, Guest, Heard, MAX_GUEST_BYTES, Refusal, Role, greeted, is_answer, letter, nonce_of,
+};
+pub use laws::{answers_follow, guards_decide, guards_let_through, peers_keep_apart};
+pub use limits::{LEASE_SECONDS, MAX_PEER_LEASES, MAX_WORK_TURNS, MOST_WAIT_SECONDS};
 pub use mem_connections::{MemConnections, Scripted};
 pub use outbox::Outbox;
 pub use peer::Peer;

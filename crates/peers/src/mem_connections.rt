@@ -1,10 +1,11 @@
 // Connections in memory.
-ghost use Rattle.std.specs.Prelude.{◌≡◌, ◌++◌, ◌∷◌, ◌^◌, ◌-◌, [], IfSome, OnOk, OnErr, length};
+ghost use Rattle.std.specs.Prelude.{◌≡◌, ◌++◌, ◌∷◌, ◌^◌, ◌-◌, [], None, IfSome, OnOk, OnErr, length};
 ghost use Rattle.peers.specs.Connections.{FitsIn, incoming};
 ghost use Rattle.peers.specs.Memory.{rooms, scripted, sent_at};
 
 use crate::arrival::Arrival;
 use crate::connections::Connections;
+use crate::dismissal::{Dismissal, Dismissed};
 use std::alloc::Global;
 use std::marker::Model;
 use wire::{Fault, NoMemory};
@@ -36,6 +37,7 @@ pub struct MemConnections {
     // How many bytes a peer takes at once.
     most: usize,
     failures: u64,
+    dismissed: Option<Dismissed>,
 }
 
 impl Model for MemConnections {
@@ -50,6 +52,7 @@ impl Model for MemConnections {
       sent = map (λ bytes. bytes.items) a.sent.items;
       most = a.most;
       failures = a.failures;
+      dismissed = a.dismissed;
     } };
 
     ghost invariant = { λ a. a.come ≤ length a.script.items };
@@ -58,7 +61,14 @@ impl Model for MemConnections {
 impl MemConnections {
     /// Nothing comes, and each peer takes all that it is sent.
     pub fn new(alloc: Global) -> MemConnections
-        ensures { result ≡ record { script = []; come = 0; sent = []; most = 2 ^ 64 - 1; failures = 0 } }
+        ensures { result ≡ record {
+          script = [];
+          come = 0;
+          sent = [];
+          most = 2 ^ 64 - 1;
+          failures = 0;
+          dismissed = None;
+        } }
     {
         MemConnections {
             alloc,
@@ -67,6 +77,7 @@ impl MemConnections {
             sent: Vec::new(alloc),
             most: usize::MAX,
             failures: 0,
+            dismissed: None,
         }
     }
 
@@ -91,6 +102,13 @@ impl MemConnections {
         ensures { self.new ≡ record self.old { most = most } }
     {
         self.most = most;
+    }
+
+    /// The peer that was to be let go last, and why; none where none was.
+    pub fn dismissed(&self) -> Option<Dismissed>
+        ensures { result ≡ self.now.dismissed }
+    {
+        self.dismissed
     }
 
     /// What the peer at a place was sent.
@@ -138,6 +156,8 @@ impl Connections for MemConnections {
 
     ghost failures = { λ m. m.failures };
 
+    ghost dismissed = { λ m. m.dismissed };
+
     fn next_arrival(&mut self, buf: &mut [u8]) -> Result<Arrival, Fault> {
         if self.come < self.script.len() {
             if let Some(arrival) = arrival_of(&self.script[self.come], buf) {
@@ -157,5 +177,9 @@ impl Connections for MemConnections {
             }
         }
         0
+    }
+
+    fn dismiss(&mut self, place: usize, why: Dismissal) {
+        self.dismissed = Some(Dismissed { place, why });
     }
 }

@@ -1,9 +1,17 @@
 // Peers, each at a place of its own.
-ghost use Rattle.std.specs.Prelude.{◌≡◌, ◌≤◌, ◌↔◌, ◌++◌, ◌∷◌, [], None, Some, IsTrue, OnOk, OnErr, length, set};
+ghost use Rattle.std.specs.Prelude.{◌≡◌, ◌≢◌, ◌≤◌, ◌↔◌, ◌++◌, ◌∷◌, List, [], None, Some, IfErr, IsTrue, OnOk, OnErr, length, set};
+ghost use Rattle.wire.specs.Fulfilled.{BrokenOff, Handed, scene};
+ghost use Rattle.wire.specs.Happening.{Happening};
 ghost use Rattle.wire.specs.Turned.{EndsInStep, devices};
-ghost use Rattle.peers.specs.Peers.{KeepsOthers, at_first, due_at, failures_at, peer_at, peer_count, drained_at};
-ghost use Rattle.peers.specs.Served.{Hears};
+ghost use Rattle.wire.specs.declared.turned.TurnFault.TheVariants.{LinkFault as Unlinked};
+ghost use Rattle.peers.specs.Guarded.{InStepWithin};
+ghost use Rattle.peers.specs.Peers.{KeepsOthers, at_first, dismissal_at, due_at, failures_at, peer_at, peer_count, drained_at};
+ghost use Rattle.peers.specs.Served.{Hears, OnlyNode, returned_at};
+ghost use Rattle.peers.specs.Slot.{boxed_peer};
 
+use crate::dismissal::Dismissal;
+use crate::guarded::Guarded;
+use crate::peer::Peer;
 use crate::slot::Slot;
 use std::alloc::Global;
 use std::marker::Model;
@@ -66,16 +74,54 @@ impl Peers {
         Ok(())
     }
 
-    /// The peer at a place is gone: what it began and hasn't ended is no line, and what waits for it isn't sent.
-    pub fn leave(&mut self, place: usize)
-        ensures { self.new ≡ set self.old place None }
+    /// The peer at a place leaves: what it began and hasn't ended is no line, and what waits for it isn't sent. The node is
+    /// handed the frames that give its leases back, what the ledger gains by them is kept, and nobody is sent what the node
+    /// answers. Where the node doesn't answer, or the ledger fails, the peer is gone all the same.
+    pub fn leave<N: Node, W: LedgerOut>(
+        &mut self,
+        place: usize,
+        node: &mut Guarded<N>,
+        ledger: &mut W,
+    ) -> Result<(), TurnFault>
+        ensures ok { OnOk result (Handed N.answers (scene node.old.node (W.text ledger.old) None)
+            (returned_at (peer_at self.old place)) [] (scene node.new.node (W.text ledger.new) None)) }
+        ensures err { IfErr result (λ fault. (fault ≢ Unlinked) × ((left : List Happening)
+            × BrokenOff N.answers N.is_stopped (scene node.old.node (W.text ledger.old) None)
+            (returned_at (peer_at self.old place)) fault left (scene node.new.node (W.text ledger.new) None))) }
+        ensures left { self.new ≡ set self.old place None }
+        ensures only { OnlyNode node.old node.new }
+        ensures ends { EndsInStep N.in_step result
+            (devices node.old.node (W.text ledger.old) 0 (W.failures ledger.old))
+            (devices node.new.node (W.text ledger.new) 0 (W.failures ledger.new)) }
+    {
+        match self.take_out(place) {
+            Some(peer) => peer.give_back(&mut node.node, ledger),
+            None => Ok(()),
+        }
+    }
+
+    // Takes out the peer at a place.
+    fn take_out(&mut self, place: usize) -> Option<Box<Peer>>
+        ensures left { self.new ≡ set self.old place None }
+        ensures gone { boxed_peer result ≡ peer_at self.old place }
+    {
+        if place >= self.places.len() {
+            return None;
+        }
+        if self.places[place].is_there() {
+            self.present -= 1;
+        }
+        self.places[place].leave()
+    }
+
+    /// Why the peer at a place was let go; none where it wasn't, or is gone.
+    pub fn dismissal(&self, place: usize) -> Option<Dismissal>
+        ensures { result ≡ dismissal_at (peer_at self.now place) }
     {
         if place < self.places.len() {
-            if self.places[place].is_there() {
-                self.present -= 1;
-            }
-            self.places[place].leave();
+            return self.places[place].dismissal();
         }
+        None
     }
 
     /// Takes a piece that came from the peer at a place, as `Peer::take`. Nothing else of what waits to be sent to any
@@ -84,13 +130,13 @@ impl Peers {
         &mut self,
         place: usize,
         piece: &[u8],
-        node: &mut N,
+        node: &mut Guarded<N>,
         ledger: &mut W,
     ) -> Result<(), TurnFault>
         ensures heard { Hears N.answers N.is_stopped node.old (W.text ledger.old) (peer_at self.old place) piece.now
             result node.new (W.text ledger.new) (peer_at self.new place) }
         ensures others { KeepsOthers place self.old self.new }
-        ensures ends { EndsInStep N.in_step result
+        ensures ends { EndsInStep (InStepWithin N.in_step) result
             (devices node.old (W.text ledger.old) (failures_at (peer_at self.old place)) (W.failures ledger.old))
             (devices node.new (W.text ledger.new) (failures_at (peer_at self.new place)) (W.failures ledger.new)) }
     {

@@ -6,14 +6,17 @@ ghost use Rattle.wire.specs.Turned.{EndsInStep, devices};
 ghost use Rattle.wire.specs.declared.node.Out.{Out as Answer};
 ghost use Rattle.wire.specs.declared.turned.TurnFault.TheVariants.{LinkFault as Unlinked};
 ghost use Rattle.peers.specs.Connections.{Incoming, noted};
-ghost use Rattle.peers.specs.Served.{CountsFailure, Exchange, Fails, TakesArrival, all_came, asker, noted_if, served};
+ghost use Rattle.peers.specs.Served.{CountsFailure, Exchange, Fails, TakesArrival, all_came, asker, let_go, let_go_by, noted_if, served};
 ghost use Rattle.peers.specs.inside.{SendsTo, ServesOne};
 ghost use Rattle.peers.specs.Sent.{BreaksOff, Sends, Serves};
 
+use crate::alone::hand_alone;
 use crate::arrival::Arrival;
 use crate::connections::Connections;
+use crate::dismissal::Dismissal;
+use crate::guarded::Guarded;
 use crate::peers::Peers;
-use wire::{Event, LedgerOut, Node, TurnFault, begin};
+use wire::{Event, LedgerOut, Node, TurnFault};
 
 /// Takes what comes next: a piece is cut into lines, which the node is handed in their order, and its answers wait for
 /// the peer that asked. Nothing is sent. Answers the place of the peer to which there may be something to send.
@@ -25,20 +28,22 @@ pub fn take_arrival<C: Connections, N: Node, W: LedgerOut>(
     connections: &mut C,
     buf: &mut [u8],
     peers: &mut Peers,
-    node: &mut N,
+    node: &mut Guarded<N>,
     ledger: &mut W,
 ) -> Result<Option<usize>, TurnFault>
     ensures ok { IfOk result (λ place. (exchange : Exchange)
         × (C.arrived connections.new ≡ noted (C.arrived connections.old) (exchange.came ∷ []))
         × TakesArrival N.answers (served node.old (W.text ledger.old) peers.old) exchange.came exchange.replies
-        (served node.new (W.text ledger.new) peers.new) × (place ≡ asker exchange.came)) }
+        exchange.handed (served node.new (W.text ledger.new) peers.new) × (place ≡ asker exchange.came)
+        × (C.dismissed connections.new ≡ let_go_by exchange.came peers.old peers.new (C.dismissed connections.old))) }
     ensures err { IfErr result (λ fault. (came : Option Incoming)
         × (C.arrived connections.new ≡ noted_if (C.arrived connections.old) came)
         × Fails N.answers N.is_stopped (served node.old (W.text ledger.old) peers.old) came fault
         (served node.new (W.text ledger.new) peers.new)) }
+    ensures kept { OnErr result (C.dismissed connections.new ≡ C.dismissed connections.old) }
     ensures sent { (place : ℕ) → C.sent connections.new place ≡ C.sent connections.old place }
-    ensures step { result ≢ Err TurnFault.LedgerFault → IfSome (W.text ledger.old) (N.in_step node.old)
-        → IfSome (W.text ledger.new) (N.in_step node.new) }
+    ensures step { result ≢ Err TurnFault.LedgerFault → IfSome (W.text ledger.old) (N.in_step node.old.node)
+        → IfSome (W.text ledger.new) (N.in_step node.new.node) }
     ensures ledger { result ≡ Err TurnFault.LedgerFault → W.failures ledger.old ≢ W.failures ledger.new }
     ensures link { result ≡ Err TurnFault.LinkFault
         → CountsFailure (C.failures connections.old) (C.failures connections.new) peers.old peers.new }
@@ -52,11 +57,13 @@ pub fn take_arrival<C: Connections, N: Node, W: LedgerOut>(
             Ok(None)
         }
         Arrival::Came { place, count } => {
+            let was = peers.dismissal(place);
             peers.take(place, &buf[..count], node, ledger)?;
+            let_go(connections, place, was, peers.dismissal(place));
             Ok(Some(place))
         }
         Arrival::Gone { place } => {
-            peers.leave(place);
+            peers.leave(place, node, ledger)?;
             Ok(None)
         }
         Arrival::Passed(moment) => {
@@ -67,23 +74,43 @@ pub fn take_arrival<C: Connections, N: Node, W: LedgerOut>(
     }
 }
 
+// Who wasn't dismissed before is let go where it is now.
+fn let_go<C: Connections>(
+    connections: &mut C,
+    place: usize,
+    was: Option<Dismissal>,
+    now: Option<Dismissal>,
+)
+    ensures dismissed { C.dismissed connections.new ≡ let_go place was now (C.dismissed connections.old) }
+    ensures sent { (other : ℕ) → C.sent connections.new other ≡ C.sent connections.old other }
+    ensures arrived { C.arrived connections.new ≡ C.arrived connections.old }
+    ensures count { C.failures connections.new ≡ C.failures connections.old }
+{
+    if was.is_none()
+        && let Some(why) = now
+    {
+        connections.dismiss(place, why);
+    }
+}
+
 // Time has passed. What a node would send then, nobody asked for.
-fn tick<N: Node, W: LedgerOut>(node: &mut N, ledger: &mut W, moment: u64) -> Result<(), TurnFault>
-    ensures ok { OnOk result ((out : Answer) × N.answers node.old (Ticked moment) (Ok out) node.new
+fn tick<N: Node, W: LedgerOut>(
+    node: &mut Guarded<N>,
+    ledger: &mut W,
+    moment: u64,
+) -> Result<(), TurnFault>
+    ensures ok { OnOk result ((out : Answer) × N.answers node.old.node (Ticked moment) (Ok out) node.new.node
+        × (node.new ≡ record node.old { node = node.new.node; moment = moment })
         × (W.text ledger.new ≡ kept_text out (W.text ledger.old))) }
     ensures err { IfErr result (λ fault. (fault ≢ Unlinked) × Faulted N.answers N.is_stopped
-        (scene node.old (W.text ledger.old) None) (Ticked moment) fault (scene node.new (W.text ledger.new) None)) }
-    ensures ends { EndsInStep N.in_step result (devices node.old (W.text ledger.old) 0 (W.failures ledger.old))
-        (devices node.new (W.text ledger.new) 0 (W.failures ledger.new)) }
+        (scene node.old.node (W.text ledger.old) None) (Ticked moment) fault
+        (scene node.new.node (W.text ledger.new) None)) }
+    ensures ends { EndsInStep N.in_step result (devices node.old.node (W.text ledger.old) 0 (W.failures ledger.old))
+        (devices node.new.node (W.text ledger.new) 0 (W.failures ledger.new)) }
 {
-    let out = node.on(Event::Tick(moment))?;
-    match begin(&out, ledger) {
-        Ok(()) => Ok(()),
-        Err(_) => {
-            node.stop();
-            Err(TurnFault::LedgerFault)
-        }
-    }
+    hand_alone(&mut node.node, ledger, Event::Tick(moment))?;
+    node.tell_moment(moment);
+    Ok(())
 }
 
 /// Sends a peer as much of what waits for it as it takes now; that waits no more.
@@ -106,7 +133,7 @@ pub fn serve<C: Connections, N: Node, W: LedgerOut>(
     connections: &mut C,
     buf: &mut [u8],
     peers: &mut Peers,
-    node: &mut N,
+    node: &mut Guarded<N>,
     ledger: &mut W,
     turns: u64,
 ) -> Result<(), TurnFault>
@@ -117,8 +144,8 @@ pub fn serve<C: Connections, N: Node, W: LedgerOut>(
     ensures err { IfErr result (λ fault. BreaksOff N.answers N.is_stopped
         (served node.old (W.text ledger.old) peers.old) fault (served node.new (W.text ledger.new) peers.new)
         (C.sent connections.old) (C.sent connections.new) (C.arrived connections.old) (C.arrived connections.new)) }
-    ensures step { result ≢ Err TurnFault.LedgerFault → IfSome (W.text ledger.old) (N.in_step node.old)
-        → IfSome (W.text ledger.new) (N.in_step node.new) }
+    ensures step { result ≢ Err TurnFault.LedgerFault → IfSome (W.text ledger.old) (N.in_step node.old.node)
+        → IfSome (W.text ledger.new) (N.in_step node.new.node) }
 {
     let mut left = turns;
     'turns: while left > 0 {
@@ -133,7 +160,7 @@ fn serve_next<C: Connections, N: Node, W: LedgerOut>(
     connections: &mut C,
     buf: &mut [u8],
     peers: &mut Peers,
-    node: &mut N,
+    node: &mut Guarded<N>,
     ledger: &mut W,
 ) -> Result<(), TurnFault>
     ensures ok { OnOk result ((exchange : Exchange)
@@ -145,8 +172,8 @@ fn serve_next<C: Connections, N: Node, W: LedgerOut>(
         × Fails N.answers N.is_stopped (served node.old (W.text ledger.old) peers.old) came fault
         (served node.new (W.text ledger.new) peers.new)) }
     ensures unsent { OnErr result ((place : ℕ) → C.sent connections.new place ≡ C.sent connections.old place) }
-    ensures step { result ≢ Err TurnFault.LedgerFault → IfSome (W.text ledger.old) (N.in_step node.old)
-        → IfSome (W.text ledger.new) (N.in_step node.new) }
+    ensures step { result ≢ Err TurnFault.LedgerFault → IfSome (W.text ledger.old) (N.in_step node.old.node)
+        → IfSome (W.text ledger.new) (N.in_step node.new.node) }
 {
     let asker = take_arrival(connections, buf, peers, node, ledger)?;
     answer_asker(connections, peers, asker);

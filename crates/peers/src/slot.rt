@@ -1,9 +1,13 @@
 // The place of a peer.
 ghost use Rattle.std.specs.Prelude.{◌≡◌, ◌≤◌, None, Some, IfOk, length};
 ghost use Rattle.wire.specs.Turned.{EndsInStep, devices};
-ghost use Rattle.peers.specs.Peers.{at_first, drained_at, due_at, failures_at, is_there};
+ghost use Rattle.peers.specs.Guarded.{InStepWithin};
+ghost use Rattle.peers.specs.Peers.{at_first, dismissal_at, drained_at, due_at, failures_at, is_there};
 ghost use Rattle.peers.specs.Served.{Hears};
+ghost use Rattle.peers.specs.Slot.{boxed_peer};
 
+use crate::dismissal::Dismissal;
+use crate::guarded::Guarded;
 use crate::peer::Peer;
 use std::alloc::Global;
 use std::marker::Model;
@@ -46,23 +50,34 @@ impl Slot {
         self.peer.is_some()
     }
 
-    // The peer here is gone.
-    pub fn leave(&mut self)
-        ensures { self.new ≡ None }
+    // The peer here is gone; it is answered, if there was one.
+    pub fn leave(&mut self) -> Option<Box<Peer>>
+        ensures left { self.new ≡ None }
+        ensures gone { boxed_peer result ≡ self.old }
     {
-        self.peer = None;
+        self.peer.take()
+    }
+
+    // Why its peer was let go; none where it wasn't, or is gone.
+    pub fn dismissal(&self) -> Option<Dismissal>
+        ensures { result ≡ dismissal_at self.now }
+    {
+        match &self.peer {
+            Some(peer) => peer.dismissal(),
+            None => None,
+        }
     }
 
     // Takes a piece that came from its peer.
     pub fn take<N: Node, W: LedgerOut>(
         &mut self,
         piece: &[u8],
-        node: &mut N,
+        node: &mut Guarded<N>,
         ledger: &mut W,
     ) -> Result<(), TurnFault>
         ensures heard { Hears N.answers N.is_stopped node.old (W.text ledger.old) self.old piece.now result node.new
             (W.text ledger.new) self.new }
-        ensures ends { EndsInStep N.in_step result
+        ensures ends { EndsInStep (InStepWithin N.in_step) result
             (devices node.old (W.text ledger.old) (failures_at self.old) (W.failures ledger.old))
             (devices node.new (W.text ledger.new) (failures_at self.new) (W.failures ledger.new)) }
     {

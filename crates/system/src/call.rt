@@ -1,12 +1,17 @@
 // The connection of a worker's process with its coordinator.
 use crate::address::Address;
-use std::io::{self, Read, Write};
+use crate::token_shown::show_token;
+use cmd_nodes::Destination;
+use std::io::{self, ErrorKind, Read, Write};
 use std::net::{Ipv4Addr, TcpStream};
 use std::os::unix::net::UnixStream;
 use std::time::Duration;
 
 // How long a read or a write waits before it says that nothing moved, in seconds.
 const TIMEOUT_SECONDS: u64 = 30;
+
+// How long that is while the token is shown.
+const SHORT_TIMEOUT_SECONDS: u64 = 1;
 
 /// A connection with a coordinator. A read for which nothing comes within 30 seconds ends with `WouldBlock`, and so does a
 /// write of which nothing is taken.
@@ -19,28 +24,64 @@ pub enum CoordinatorStream {
 }
 
 impl CoordinatorStream {
-    /// Connects with a coordinator that listens at an address.
-    pub fn connect(rt: &HostRuntime, address: Address<'_>) -> io::Result<CoordinatorStream> {
+    /// Connects with a coordinator. Where there is a token, each shows the other that it has it.
+    pub fn connect(rt: &HostRuntime, to: Destination<'_>) -> io::Result<CoordinatorStream> {
+        let mut stream = CoordinatorStream::at(rt, Address::of(to.address))?;
+        if let Some(token) = to.token {
+            stream.set_timeout(SHORT_TIMEOUT_SECONDS)?;
+            show_token(rt, &mut stream, token)?;
+        }
+        stream.set_timeout(TIMEOUT_SECONDS)?;
+        Ok(stream)
+    }
+
+    fn at(rt: &HostRuntime, address: Address<'_>) -> io::Result<CoordinatorStream> {
         match address {
             Address::Host(host) => CoordinatorStream::over(TcpStream::connect(rt, host)?),
             Address::Port(port) => {
                 CoordinatorStream::over(TcpStream::connect(rt, (Ipv4Addr::LOCALHOST, port))?)
             }
-            Address::File(path) => {
-                let stream = UnixStream::connect(rt, path)?;
-                stream.set_read_timeout(Some(Duration::from_secs(TIMEOUT_SECONDS)))?;
-                stream.set_write_timeout(Some(Duration::from_secs(TIMEOUT_SECONDS)))?;
-                Ok(CoordinatorStream::Unix(stream))
-            }
+            Address::File(path) => Ok(CoordinatorStream::Unix(UnixStream::connect(rt, path)?)),
         }
     }
 
     fn over(stream: TcpStream) -> io::Result<CoordinatorStream> {
         stream.set_nodelay(true)?;
-        stream.set_read_timeout(Some(Duration::from_secs(TIMEOUT_SECONDS)))?;
-        stream.set_write_timeout(Some(Duration::from_secs(TIMEOUT_SECONDS)))?;
         Ok(CoordinatorStream::Tcp(stream))
     }
+
+    fn set_timeout(&self, seconds: u64) -> io::Result<()> {
+        let timeout = Some(Duration::from_secs(seconds));
+        match self {
+            CoordinatorStream::Tcp(stream) => {
+                stream.set_read_timeout(timeout)?;
+                stream.set_write_timeout(timeout)
+            }
+            CoordinatorStream::Unix(stream) => {
+                stream.set_read_timeout(timeout)?;
+                stream.set_write_timeout(timeout)
+            }
+        }
+    }
+
+    // The next byte; none where it hasn't come yet. An error where the connection has ended.
+    pub(crate) fn next_byte(&mut self) -> io::Result<Option<u8>> {
+        let mut byte = [0];
+        match self.read(&mut byte) {
+            Ok(0) => Err(io::Error::from(ErrorKind::UnexpectedEof)),
+            Ok(_) => Ok(Some(byte[0])),
+            Err(fault) if has_waited(&fault) => Ok(None),
+            Err(fault) => Err(fault),
+        }
+    }
+}
+
+// Whether nothing has come for a while.
+fn has_waited(fault: &io::Error) -> bool {
+    matches!(
+        fault.kind(),
+        ErrorKind::WouldBlock | ErrorKind::TimedOut | ErrorKind::Interrupted
+    )
 }
 
 impl Read for CoordinatorStream {

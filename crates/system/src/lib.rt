@@ -4,17 +4,22 @@
 //!
 //! What the system does no contract can say; `files` and `cmd_nodes` have what commands ask of it, `peers` what is asked of
 //! sockets: that each byte that came is handed over once and in its order, under the place of its connection, and that bytes
-//! that are said to be sent are.
+//! that are said to be sent are. Who may come is said by `peers::Guest`; here stands how long one is waited for, how many
+//! there are at once, and in which turn each is read.
 #![tactic(auto)]
 
 mod address;
 mod call;
 mod failures;
+mod guests;
+mod herald;
+mod leaving;
 mod listener;
 mod listening;
 mod meter;
 mod named_file;
 mod named_socket;
+mod origin;
 mod peer_socket;
 mod peer_sockets;
 mod places;
@@ -24,6 +29,7 @@ mod system;
 mod teller;
 mod telling;
 mod timed;
+mod token_shown;
 mod watch;
 mod watched_file;
 mod way;

@@ -1,5 +1,6 @@
 // What waits for connections.
 use crate::address::Address;
+use crate::origin::Origin;
 use crate::peer_socket::PeerStream;
 use mio::event::Source;
 use mio::{Interest, Registry, Token};
@@ -45,17 +46,17 @@ impl Listener {
     }
 
     // The connection that has waited longest; `WouldBlock` where none waits.
-    pub fn accept(&self) -> io::Result<PeerStream> {
+    pub fn accept(&self) -> io::Result<(PeerStream, Origin)> {
         match self {
             Listener::Tcp(listener) => {
-                let (stream, _) = listener.accept()?;
+                let (stream, place) = listener.accept()?;
                 // What is written goes out at once: answers aren't held back until the last is acknowledged.
                 stream.set_nodelay(true)?;
-                Ok(PeerStream::Tcp(stream))
+                Ok((PeerStream::Tcp(stream), Origin::Address(place)))
             }
             Listener::Unix(listener) => {
                 let (stream, _) = listener.accept()?;
-                Ok(PeerStream::Unix(stream))
+                Ok((PeerStream::Unix(stream), Origin::SocketFile))
             }
         }
     }

@@ -3,13 +3,20 @@ ghost use Rattle.std.specs.Prelude.{◌≤◌, IfOk, IfSome, length};
 ghost use Rattle.peers.specs.Connections.{FitsIn};
 
 use crate::address::Address;
+use crate::guests::{Guests, is_guest};
+use crate::herald::Herald;
+use crate::leaving::Leaving;
 use crate::listener::Listener;
+use crate::origin::Origin;
+use crate::peer_socket::PeerSocket;
 use crate::places::Places;
 use crate::seconds::Seconds;
+use cmd_nodes::Admission;
 use mio::{Events, Interest, Poll, Token};
-use peers::Arrival;
+use peers::{Arrival, Dismissal};
 use std::io;
 use std::net::SocketAddr;
+use std::time::Duration;
 
 // How many peers there are at most.
 const MAX_PEERS: usize = 1_000;
@@ -17,32 +24,55 @@ const MAX_PEERS: usize = 1_000;
 // How many events of sockets are taken at once.
 const EVENTS: usize = 1_024;
 
+// After how many turns the system is asked at the latest what is new.
+const MOST_TURNS: usize = 64;
+
 // The listener's name among the sources of events; no peer has this place.
 const LISTENER: Token = Token(usize::MAX);
 
 #[derive(Drop)]
 pub(crate) struct Listening<'a> {
+    rt: &'a HostRuntime,
     poll: Poll,
     events: Events,
     listener: Listener,
     // whether connections may wait to be accepted
     is_asked: bool,
-    places: Places,
+    // whether a peer came in the last turn, so that in this one nobody is let in
+    has_let_in: bool,
+    // how many turns are left in this round
+    turns: usize,
+    places: Places<'a>,
+    // none where anyone may come
+    guests: Option<Guests<'a>>,
+    per_address: usize,
+    herald: Herald<'a>,
     seconds: Seconds<'a>,
 }
 
 impl<'a> Listening<'a> {
-    pub fn at(rt: &'a HostRuntime, address: Address<'_>) -> io::Result<Listening<'a>> {
+    pub fn at(
+        rt: &'a HostRuntime,
+        address: Address<'_>,
+        admission: Admission,
+    ) -> io::Result<Listening<'a>> {
         let poll = Poll::new(rt)?;
         let mut listener = Listener::at(rt, address)?;
         poll.registry()
             .register(&mut listener, LISTENER, Interest::READABLE)?;
+        let Admission { token, per_address } = admission;
         Ok(Listening {
+            rt,
             poll,
             events: Events::with_capacity(rt.alloc(), EVENTS)?,
             listener,
             is_asked: true,
-            places: Places::new(rt.alloc()),
+            has_let_in: false,
+            turns: 0,
+            places: Places::new(rt.alloc(), Herald::new(rt)),
+            guests: guests_of(rt, token),
+            per_address: usize::try_from(per_address).unwrap_or(MAX_PEERS),
+            herald: Herald::new(rt),
             seconds: Seconds::new(rt)?,
         })
     }
@@ -52,68 +82,179 @@ impl<'a> Listening<'a> {
         self.listener.place()
     }
 
-    // What has come, where nothing has to be waited for.
-    fn at_hand(&mut self, buf: &mut [u8]) -> io::Result<Option<Arrival>>
-        ensures { IfOk result (λ arrival. IfSome arrival (FitsIn (length buf.new))) }
-    {
-        if let Some(second) = self.seconds.next()? {
-            // A connection that couldn't be accepted is tried again.
-            self.is_asked = true;
-            return Ok(Some(Arrival::Passed(second)));
-        }
-        if self.accepts() {
-            return Ok(Some(Arrival::Opened));
-        }
-        if let Some(room) = self.places.next_room() {
-            return Ok(Some(room));
-        }
-        Ok(self.places.read_next(buf)?)
-    }
-
-    // Accepts a connection that waits, if there is one.
-    fn accepts(&mut self) -> bool {
-        if !self.is_asked || self.places.count() >= MAX_PEERS {
-            return false;
-        }
-        let Ok(mut stream) = self.listener.accept() else {
-            self.is_asked = false;
-            return false;
-        };
-        let registered = self.poll.registry().register(
-            &mut stream,
-            Token(self.places.next_place()),
-            Interest::READABLE | Interest::WRITABLE,
-        );
-        // One that can't be kept is closed again.
-        registered.is_ok() && self.places.open(stream).is_ok()
-    }
-
-    // Waits until something comes, or the next second.
-    fn wait(&mut self) -> io::Result<()> {
-        let rest = self.seconds.rest()?;
-        self.poll.poll(&mut self.events, Some(rest))?;
-        for event in self.events.iter() {
-            let token = event.token();
-            if token == LISTENER {
-                self.is_asked = true;
-            } else {
-                self.places.note(token.0, event)?;
-            }
-        }
-        Ok(())
-    }
-
     // What comes next.
     pub fn next(&mut self, buf: &mut [u8]) -> io::Result<Option<Arrival>>
         ensures { IfOk result (λ arrival. IfSome arrival (FitsIn (length buf.new))) }
     {
         for _ in 0..u64::MAX {
-            if let Some(arrival) = self.at_hand(buf)? {
+            if self.turns == 0 && self.has_more() {
+                self.ask(Duration::ZERO)?;
+            }
+            self.turns = self.turns.saturating_sub(1);
+            if let Some(arrival) = self.turn(buf)? {
                 return Ok(Some(arrival));
             }
-            self.wait()?;
+            if !self.has_more() {
+                let rest = self.seconds.rest()?;
+                self.ask(rest)?;
+            }
         }
         Ok(None)
+    }
+
+    // Whether there may be something at hand.
+    fn has_more(&self) -> bool {
+        let has_guests = match &self.guests {
+            Some(guests) => guests.has_ready(),
+            None => false,
+        };
+        self.is_asked || has_guests || self.places.has_ready()
+    }
+
+    // What has come, where nothing has to be waited for: at most one peer is let in before one is read.
+    fn turn(&mut self, buf: &mut [u8]) -> io::Result<Option<Arrival>>
+        ensures { IfOk result (λ arrival. IfSome arrival (FitsIn (length buf.new))) }
+    {
+        if let Some(second) = self.seconds.next()? {
+            self.begin_second(second)?;
+            return Ok(Some(Arrival::Passed(second)));
+        }
+        if !self.has_let_in && (self.accepts()? || self.lets_in()?) {
+            self.has_let_in = true;
+            return Ok(Some(Arrival::Opened));
+        }
+        self.has_let_in = false;
+        if let Some(room) = self.places.next_room() {
+            return Ok(Some(room));
+        }
+        let arrival = self.places.read_next(buf)?;
+        if let Some(Arrival::Gone { .. }) = &arrival {
+            // A place is free.
+            self.is_asked = true;
+        }
+        Ok(arrival)
+    }
+
+    fn begin_second(&mut self, second: u64) -> io::Result<()> {
+        // Nobody is late whose bytes have come.
+        self.ask(Duration::ZERO)?;
+        // A connection that couldn't be accepted is tried again.
+        self.is_asked = true;
+        self.herald.begin_second();
+        if let Some(guests) = &mut self.guests {
+            guests.begin_second(second);
+        }
+        Ok(self.places.begin_second(second)?)
+    }
+
+    // Accepts a connection that waits, if there is one. Whether it is a peer.
+    fn accepts(&mut self) -> io::Result<bool> {
+        if !self.is_asked {
+            return Ok(false);
+        }
+        if self.places.is_calm() {
+            self.is_asked = false;
+            return Ok(false);
+        }
+        if self.guests.is_none() && self.is_full()? {
+            self.is_asked = false;
+            return Ok(false);
+        }
+        let Ok((stream, origin)) = self.listener.accept() else {
+            self.is_asked = false;
+            return Ok(false);
+        };
+        if self.has_enough_from(&origin) {
+            self.herald.say(
+                origin,
+                "isn't let in: too many come from there (--per-address)",
+            );
+            return Ok(false);
+        }
+        match &mut self.guests {
+            Some(guests) => {
+                // One that can't be kept is closed again.
+                let _ = guests.welcome(self.poll.registry(), stream, origin);
+                Ok(false)
+            }
+            None => Ok(self.seats(
+                PeerSocket::of(stream, origin, Vec::new(self.rt.alloc())),
+                false,
+            )),
+        }
+    }
+
+    // Lets in a guest that shows the token, if there is one. Whether there is.
+    fn lets_in(&mut self) -> io::Result<bool> {
+        let newcomer = match &mut self.guests {
+            Some(guests) => guests.let_in()?,
+            None => None,
+        };
+        match newcomer {
+            Some(socket) if self.is_full()? => {
+                self.herald
+                    .say(socket.origin, "isn't let in: no place is free");
+                Ok(false)
+            }
+            Some(socket) => Ok(self.seats(socket, true)),
+            None => Ok(false),
+        }
+    }
+
+    // Whether no place is free. One that was silent for long is ended then.
+    fn is_full(&mut self) -> io::Result<bool> {
+        if self.places.count() < MAX_PEERS {
+            return Ok(false);
+        }
+        self.places.displace()?;
+        Ok(true)
+    }
+
+    // Whether no more may come from there.
+    fn has_enough_from(&self, origin: &Origin) -> bool {
+        let Some(ip) = origin.ip() else {
+            return false;
+        };
+        let guests = match &self.guests {
+            Some(guests) => guests.count_from(ip),
+            None => 0,
+        };
+        self.places.count_from(ip).saturating_add(guests) >= self.per_address
+    }
+
+    // Gives a peer the next place. One that can't be kept is closed again.
+    fn seats(&mut self, socket: PeerSocket, is_known: bool) -> bool {
+        let Ok(mut socket) = Box::new(self.rt.alloc(), socket) else {
+            return false;
+        };
+        let name = Token(self.places.next_place());
+        let interests = Interest::READABLE | Interest::WRITABLE;
+        let registry = self.poll.registry();
+        let registered = if is_known {
+            registry.reregister(&mut socket.stream, name, interests)
+        } else {
+            registry.register(&mut socket.stream, name, interests)
+        };
+        registered.is_ok() && self.places.open(socket).is_ok()
+    }
+
+    // Asks the system what is new, and waits so long for it at most. Another round begins.
+    fn ask(&mut self, wait: Duration) -> io::Result<()> {
+        self.poll.poll(&mut self.events, Some(wait))?;
+        for event in self.events.iter() {
+            let token = event.token();
+            if token == LISTENER {
+                self.is_asked = true;
+            } else if is_guest(token.0) {
+                if let Some(guests) = &mut self.guests {
+                    guests.note(token.0)?;
+                }
+            } else {
+                self.places.note(token.0, event)?;
+            }
+        }
+        self.turns = self.places.ready_count().max(1).min(MOST_TURNS);
+        Ok(())
     }
 
     // As `Places::send`.
@@ -122,4 +263,15 @@ impl<'a> Listening<'a> {
     {
         self.places.send(place, bytes)
     }
+
+    // The peer at a place is gone in its next turn.
+    pub fn dismiss(&mut self, place: usize, why: Dismissal) {
+        // Where memory is refused, it is gone once something comes from it.
+        let _ = self.places.leave(place, Leaving::Dismissed(why));
+    }
+}
+
+// Guests are kept where there is a token.
+fn guests_of(rt: &HostRuntime, token: Option<Vec<u8>>) -> Option<Guests<'_>> {
+    Some(Guests::new(rt, token?))
 }

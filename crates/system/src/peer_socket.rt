@@ -1,6 +1,8 @@
 // The socket of a peer.
-ghost use Rattle.std.specs.Prelude.{◌≤◌, IfOk, length};
+ghost use Rattle.std.specs.Prelude.{◌≤◌, IfOk, IfSome, length};
 
+use crate::leaving::Leaving;
+use crate::origin::Origin;
 use mio::event::Source;
 use mio::{Interest, Registry, Token};
 use std::io::{self, ErrorKind, Read, Write};
@@ -71,21 +73,74 @@ impl Source for PeerStream {
 #[derive(Drop)]
 pub(crate) struct PeerSocket {
     pub stream: PeerStream,
+    pub origin: Origin,
+    // What came behind the line by which it was let in, and is handed over first.
+    pub first: Vec<u8>,
     // Fewer bytes were taken than were given: nothing is read until more are.
     pub is_full: bool,
     // Whether the peer stands among those that are read next.
     pub is_ready: bool,
-    // Whether a write failed.
-    pub is_broken: bool,
+    // Why it is closed in its next turn.
+    pub leaving: Option<Leaving>,
+    // The second in which it came.
+    pub since: u64,
+    // The second in which something came from it last; before that, the one in which it came.
+    pub heard: u64,
+    // Whether a line of it was whole.
+    pub has_spoken: bool,
+    // Whether it was told anything but to come later: it may have been granted a table.
+    pub was_served: bool,
 }
 
 impl PeerSocket {
-    pub fn of(stream: PeerStream) -> PeerSocket {
+    pub fn of(stream: PeerStream, origin: Origin, first: Vec<u8>) -> PeerSocket {
         PeerSocket {
             stream,
+            origin,
+            first,
             is_full: false,
             is_ready: false,
-            is_broken: false,
+            leaving: None,
+            since: 0,
+            heard: 0,
+            has_spoken: false,
+            was_served: false,
+        }
+    }
+
+    // So many bytes have come; none where they have to be waited for.
+    pub fn read(&mut self, buf: &mut [u8], second: u64) -> Result<Option<usize>, Leaving>
+        ensures { IfOk result (λ count. IfSome count (λ count. count ≤ length buf.new)) }
+    {
+        if !self.first.is_empty() {
+            return Ok(Some(self.take_first(buf)));
+        }
+        match self.stream.read(buf) {
+            Ok(0) => Err(Leaving::Ended),
+            Ok(count) => {
+                self.note(&buf[..count], second);
+                Ok(Some(count))
+            }
+            Err(fault) if waits(&fault) => Ok(None),
+            Err(_) => Err(Leaving::Failed),
+        }
+    }
+
+    // What came behind the line by which it was let in.
+    fn take_first(&mut self, buf: &mut [u8]) -> usize
+        ensures { result ≤ length buf.new }
+    {
+        let count = self.first.len().min(buf.len());
+        buf[..count].copy_from_slice(&self.first[..count]);
+        let _ = self.first.drain(..count);
+        count
+    }
+
+    // Remembers that something has come.
+    fn note(&mut self, piece: &[u8], second: u64) {
+        self.heard = second;
+        if !self.has_spoken {
+            self.has_spoken = piece.contains(&b'\n');
         }
     }
 

@@ -8,16 +8,17 @@ use crate::peer_sockets::PeerSockets;
 use crate::telling::{ReadingTold, Telling};
 use crate::watch::Watch;
 use crate::watched_file::WatchedFile;
-use cmd_nodes::{Network, Sockets};
+use cmd_nodes::{Admission, Destination, Network, Sockets};
 use cmd_options::{Ended, ended_by};
 use cmd_page::sum_of;
 use files::Disk;
-use std::cell::RefCell;
+use std::alloc::AllocError as NoMemory;
+use std::cell::Cell;
 use std::env;
 use std::fs::{self, Files, OpenFile, OpenOptions, TryLockError};
-use std::io::{self, ErrorKind, IsTerminal, Write};
+use std::io::{self, ErrorKind, IsTerminal, Read, Write};
 use std::net::{TcpListener, TcpStream};
-use std::os::unix::fs::MetadataExt;
+use std::os::unix::fs::{MetadataExt, PermissionsExt};
 use std::time::{Clock, Duration};
 
 /// The files, the clock and the sockets of the system.
@@ -26,6 +27,8 @@ pub struct System<'a> {
     rt: &'a HostRuntime,
     failures: &'a Failures,
     watch: &'a Watch,
+    // whether it was said last that no table is free
+    idle: Cell<bool>,
 }
 
 impl<'a> System<'a> {
@@ -36,6 +39,7 @@ impl<'a> System<'a> {
             rt,
             failures,
             watch,
+            idle: Cell::new(false),
         }
     }
 
@@ -75,6 +79,16 @@ impl<'a> System<'a> {
         }
     }
 
+    // Says a line at a terminal, where there was memory for it.
+    fn tell(&self, line: Result<String, NoMemory>) {
+        if self.tells_terminal()
+            && let Ok(line) = line
+        {
+            // Nothing hangs on whether it can be said.
+            let _ = writeln!(self.rt.stderr(), "{line}");
+        }
+    }
+
     // The plain file at a path, open for writing; none where there is none, or it can't be written.
     fn lockable(&self, path: &str) -> Option<fs::File> {
         let found = fs::metadata(self.rt, path).ok()?;
@@ -103,6 +117,9 @@ pub struct FileLock {
 fn has_no_locks(fault: &io::Error) -> bool {
     fault.kind() == ErrorKind::Unsupported
 }
+
+// The rights to read a file that aren't its owner's.
+const READ_BY_OTHERS: u32 = 0o044;
 
 // The most links that a path leads through.
 const MOST_LINKS: u32 = 40;
@@ -344,22 +361,34 @@ impl<'a> Network for System<'a> {
 
     type Stream = CoordinatorStream;
 
-    fn listen_at(&self, address: &str) -> io::Result<PeerSockets<'a>> {
+    fn token_at(&self, path: &str) -> io::Result<Vec<u8>> {
+        let mut file = self.noted(path, fs::open(self.rt, path))?;
+        let mut token = Vec::new(self.rt.alloc());
+        self.noted(path, file.read_to_end(&mut token))?;
+        let found = self.noted(path, file.metadata())?;
+        if found.permissions().mode() & READ_BY_OTHERS != 0 {
+            self.tell(format!(in self.rt.alloc(); "{path}: others can read this token"));
+        }
+        Ok(token)
+    }
+
+    fn listen_at(&self, address: &str, admission: Admission) -> io::Result<PeerSockets<'a>> {
         let address_of = Address::of(address);
-        let sockets = self.noted(address, PeerSockets::at(self.rt, address_of))?;
+        let sockets = self.noted(address, PeerSockets::at(self.rt, address_of, admission))?;
         if address_of.has_any_port() {
             let place = self.noted(address, sockets.place())?;
             // Nothing else says where it listens: a script reads it too.
             let _ = writeln!(self.rt.stderr(), "listening at {place}");
+        } else {
+            self.tell(format!(in self.rt.alloc(); "listening at {address}"));
         }
         Ok(sockets)
     }
 
-    fn call(&self, address: &str) -> io::Result<CoordinatorStream> {
-        self.noted(
-            address,
-            CoordinatorStream::connect(self.rt, Address::of(address)),
-        )
+    fn call(&self, to: Destination<'_>) -> io::Result<CoordinatorStream> {
+        let stream = self.noted(to.address, CoordinatorStream::connect(self.rt, to))?;
+        self.tell(format!(in self.rt.alloc(); "connected with {}", to.address));
+        Ok(stream)
     }
 
     fn remember_loss(&self, address: &str, why: &str) {
@@ -378,6 +407,15 @@ impl<'a> Network for System<'a> {
                 wait.as_secs()
             );
         }
+    }
+
+    fn tell_idle(&self, idle: bool) {
+        if idle && !self.idle.get() {
+            self.tell(format!(in self.rt.alloc();
+                "the coordinator has no table to grant: asking again each second"
+            ));
+        }
+        self.idle.set(idle);
     }
 }
 

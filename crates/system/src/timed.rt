@@ -10,7 +10,10 @@ use ledger::{Board, Tally};
 use machine_text::Table;
 use std::alloc::Global;
 use std::io::Write;
-use std::time::Clock;
+use std::time::{Clock, Duration, Instant};
+
+// For how many seconds lines are gathered at most.
+const MOST_GATHERED_SECONDS: u64 = 1;
 
 /// Tells on a stream how far some work is, at most once a second by a clock. Where the clock or the stream fails, or memory
 /// is refused, nothing is told.
@@ -19,6 +22,8 @@ pub struct TimedProgress<'a, C, E> {
     meter: Meter,
     clock: &'a C,
     stream: &'a mut E,
+    // since when lines are gathered; none where the clock failed
+    gathered: Option<Instant>,
 }
 
 impl<'a, C: Clock, E: Write> TimedProgress<'a, C, E> {
@@ -34,6 +39,7 @@ impl<'a, C: Clock, E: Write> TimedProgress<'a, C, E> {
             meter: Meter::new(alloc, telling, work, clock),
             clock,
             stream,
+            gathered: Instant::now(clock).ok(),
         }
     }
 
@@ -55,6 +61,20 @@ impl<'a, C: Clock, E: Write> Progress for TimedProgress<'a, C, E> {
     fn tell_walk(&mut self, root: &Table, ahead: &[Table], tally: &Tally) {
         self.meter
             .see_walk((root, ahead), tally, self.clock, self.stream);
+    }
+
+    fn is_due(&mut self) -> bool {
+        let now = Instant::now(self.clock).ok();
+        let is_due = match (self.gathered, now) {
+            (Some(since), Some(now)) => now.duration_since(since)
+                >= Duration::from_secs(MOST_GATHERED_SECONDS),
+            // Without a clock nothing is held back.
+            _ => true,
+        };
+        if is_due {
+            self.gathered = now;
+        }
+        is_due
     }
 
     fn count_workers(&mut self, workers: usize) {

@@ -4,7 +4,7 @@ use crate::network::{ScriptedCall, ScriptedPeers};
 use crate::room::HostRoom;
 use crate::sheets::{Page, Sheet, sheet_at, synced};
 use crate::sockets::Socket;
-use cmd_nodes::{Network, Sockets};
+use cmd_nodes::{Admission, Destination, Network, Sockets};
 use cmd_options::Ended;
 use files::{Disk, DiskFile};
 use std::io::{self, ErrorKind};
@@ -254,14 +254,19 @@ impl<'a> Network for CaseHost<'a> {
 
     type Stream = ScriptedCall<'a>;
 
+    fn token_at(&self, path: &str) -> io::Result<Vec<u8>> {
+        self.room.noted(path, script_at(self.room, path))
+    }
+
     // An address is the path of a file that says what comes of it.
-    fn listen_at(&self, address: &str) -> io::Result<ScriptedPeers<'a>> {
+    fn listen_at(&self, address: &str, _admission: Admission) -> io::Result<ScriptedPeers<'a>> {
         let script = self.room.noted(address, script_at(self.room, address))?;
         Ok(ScriptedPeers::of(self.room, script))
     }
 
     // The first call finds the file ADDRESS, the next ones ADDRESS.2, ADDRESS.3 and so on.
-    fn call(&self, address: &str) -> io::Result<ScriptedCall<'a>> {
+    fn call(&self, to: Destination<'_>) -> io::Result<ScriptedCall<'a>> {
+        let address = to.address;
         let call = self.room.next_call();
         let said = if call == 1 {
             script_at(self.room, address)

@@ -4,7 +4,7 @@ ghost use Rattle.peers.specs.Connections.{FitsIn};
 
 use crate::device::failed;
 use crate::room::HostRoom;
-use peers::{Arrival, Connections};
+use peers::{Arrival, Connections, Dismissal, Dismissed};
 use std::io::{self, Read, Write};
 use wire::Fault;
 
@@ -16,6 +16,7 @@ pub struct ScriptedPeers<'a> {
     room: &'a HostRoom<'a>,
     script: Script,
     failures: u64,
+    dismissed: Option<Dismissed>,
 }
 
 // The lines that say what comes, and how many bytes of them were played.
@@ -31,6 +32,7 @@ impl<'a> ScriptedPeers<'a> {
             room,
             script: Script { text, played: 0 },
             failures: 0,
+            dismissed: None,
         }
     }
 }
@@ -85,6 +87,8 @@ impl Connections for ScriptedPeers<'_> {
 
     ghost failures = { λ peers. peers.failures };
 
+    ghost dismissed = { λ peers. peers.dismissed };
+
     fn next_arrival(&mut self, buf: &mut [u8]) -> Result<Arrival, Fault> {
         if let Some(arrival) = self.script.play(buf) {
             return Ok(arrival);
@@ -97,6 +101,11 @@ impl Connections for ScriptedPeers<'_> {
         let count = self.room.sockets.count(bytes.len()).min(bytes.len());
         let _ = self.room.note_sent(place, &bytes[..count]);
         count
+    }
+
+    fn dismiss(&mut self, place: usize, why: Dismissal) {
+        self.dismissed = Some(Dismissed { place, why });
+        let _ = self.room.note_dismissed(place, why);
     }
 }
 

@@ -2,6 +2,7 @@
 use crate::device::{Device, Share, failed};
 use crate::mem_disk::MemDisk;
 use crate::{Conditions, Limits};
+use peers::Dismissal;
 use std::alloc::{AllocError as NoMemory, Global};
 use std::cell::{Cell, RefCell};
 use std::io;
@@ -121,6 +122,12 @@ impl<'a> HostRoom<'a> {
         trace.extend_from_slice(path.as_bytes())?;
         trace.push(b'\n')?;
         Ok(())
+    }
+
+    // Writes down that a peer was let go, and why.
+    pub(crate) fn note_dismissed(&self, place: usize, why: Dismissal) -> io::Result<()> {
+        let text = format!(in self.alloc; "{place} {why}")?;
+        self.note("dismissed", &text)
     }
 
     // Writes down a call with a path and a number of bytes.

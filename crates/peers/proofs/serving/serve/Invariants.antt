@@ -11,7 +11,7 @@ invariant-turns g l = record {
       (exchanges : List Exchange) × (length exchanges + l.left ≡ l.fn.turns) × (g.C.Connections.arrived l.connections ≡ noted (g.C.Connections.arrived l.fn.connections) (all_came exchanges))
       × Serves g.N.Node.answers (served l.fn.node (g.W.LedgerOut.text l.fn.ledger) l.fn.peers) exchanges
       (served l.node (g.W.LedgerOut.text l.ledger) l.peers) (g.C.Connections.sent l.fn.connections) (g.C.Connections.sent l.connections);
-  step : IfSome (g.W.LedgerOut.text l.fn.ledger) (g.N.Node.in_step l.fn.node) → IfSome (g.W.LedgerOut.text l.ledger) (g.N.Node.in_step l.node);
+  step : IfSome (g.W.LedgerOut.text l.fn.ledger) (g.N.Node.in_step l.fn.node.node) → IfSome (g.W.LedgerOut.text l.ledger) (g.N.Node.in_step l.node.node);
 }
 
 abbrev pub decreases-turns : goal.decreases-turns

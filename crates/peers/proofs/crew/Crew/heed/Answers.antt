@@ -1,5 +1,4 @@
-use Rattle.std.proofs.Common.{◌∙◌, ap, subst, sym, refl, set, List}
-use Rattle.std.specs.Prelude.{IfSome}
+use Rattle.std.proofs.Common.{◌∙◌, ap, set, List}
 use Rattle.peers.specs.declared.pool_core.Core.{Core}
 use Rattle.peers.specs.Crew.{Crewed}
 use Rattle.peers.specs.Waiting.{heeding}

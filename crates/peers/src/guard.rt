@@ -1,0 +1,326 @@
+// The guard of a peer.
+ghost use Rattle.std.specs.Prelude.{◌≡◌, ◌≢◌, ◌<◌, List, [], IfErr, IfSome, None, OnErr, OnOk, false, length, position, true};
+ghost use Rattle.wire.specs.Fulfilled.{BrokenOff, Handed, scene};
+ghost use Rattle.wire.specs.Happening.{Happening};
+ghost use Rattle.wire.specs.Turned.{EndsInStep, devices};
+ghost use Rattle.wire.specs.declared.turned.TurnFault.TheVariants.{LinkFault as Unlinked};
+ghost use Rattle.peers.specs.Guard.{TellsPeer, ask_passage, brought, dismissed_for, forgotten, free_place, fresh, given_back, granted, handed_line, with_answer, is_of, is_over, is_returned_by, later_frame, passage, put_at, remembered, returned};
+
+use crate::asker::Asker;
+use crate::dismissal::Dismissal;
+use crate::granted::granted;
+use crate::limits::MAX_PEER_LEASES;
+use crate::line_kind::{LineKind, is_holdout, kind_of};
+use crate::passage::Passage;
+use std::alloc::Global;
+use std::marker::Model;
+use wire::{LedgerOut, NoMemory, Node, Note, Out, TurnFault};
+
+/// What stands between a peer and a node: it knows the leases that the peer has, and how many new records it brought, and
+/// decides what of its lines the node is handed.
+#[derive(Drop)]
+pub struct Guard {
+    alloc: Global,
+    askers: Vec<Asker>,
+    // How many new records the peer has brought.
+    records: u64,
+    // The moment at which it brought the last.
+    renewed: u64,
+    dismissal: Option<Dismissal>,
+}
+
+impl Model for Guard {
+    ghost use Rattle.peers.specs.Guard.{GuardState};
+
+    ghost Value = { GuardState };
+
+    ghost view = { λ a. record {
+      askers = a.askers.items;
+      records = a.records;
+      renewed = a.renewed;
+      dismissal = a.dismissal;
+    } };
+}
+
+impl Guard {
+    /// Of a peer of which nothing has come.
+    pub fn new(alloc: Global) -> Guard
+        ensures { result ≡ fresh }
+    {
+        Guard {
+            alloc,
+            askers: Vec::new(alloc),
+            records: 0,
+            renewed: 0,
+            dismissal: None,
+        }
+    }
+
+    /// Why the peer was let go; none where it wasn't.
+    pub fn dismissal(&self) -> Option<Dismissal>
+        ensures { result ≡ self.now.dismissal }
+    {
+        self.dismissal
+    }
+
+    #[tactic(auto, unfolding(crate::specs::Guard::passage))]
+    // What becomes of a line at this moment.
+    pub(crate) fn passage(&self, takes_holdouts: bool, moment: u64, line: &[u8]) -> Passage
+        ensures { result ≡ passage takes_holdouts moment self.now line.now }
+    {
+        if self.dismissal.is_some() {
+            return Passage::Nothing;
+        }
+        if !takes_holdouts && is_holdout(line) {
+            return Passage::Holdout;
+        }
+        match kind_of(line) {
+            LineKind::Ask(id) => self.ask_passage(moment, id),
+            LineKind::Done => Passage::Done,
+            LineKind::Other => Passage::Whole,
+        }
+    }
+
+    // What becomes of an `ASK`.
+    fn ask_passage(&self, moment: u64, id: u32) -> Passage
+        ensures { result ≡ ask_passage moment self.now id }
+    {
+        if let Some(place) = self.place_of(id) {
+            let asker = &self.askers[place];
+            if asker.is_idle(self.records) {
+                asker.idle_passage(moment, place)
+            } else {
+                Passage::Ask { id, place, wait: 1 }
+            }
+        } else if let Some(place) = self.free_place(moment) {
+            Passage::Ask { id, place, wait: 1 }
+        } else {
+            Passage::Later
+        }
+    }
+
+    // The place of the asker with this id.
+    fn place_of(&self, id: u32) -> Option<usize>
+        ensures value { result ≡ position (is_of id) self.now.askers }
+        ensures within { IfSome result (λ place. place < length self.now.askers) }
+    {
+        self.askers.iter().position(|asker| asker.is_of(id))
+    }
+
+    // Where one more asker may stand: behind the others, or at the place of one that is over.
+    fn free_place(&self, moment: u64) -> Option<usize>
+        ensures { result ≡ free_place moment self.now }
+    {
+        if self.askers.len() < MAX_PEER_LEASES {
+            return Some(self.askers.len());
+        }
+        self.first_over(moment)
+    }
+
+    // The place of the first asker that is over.
+    fn first_over(&self, moment: u64) -> Option<usize>
+        ensures { result ≡ position (is_over moment self.now.renewed) self.now.askers }
+    {
+        let renewed = self.renewed;
+        self.askers
+            .iter()
+            .position(|asker| asker.is_over(moment, renewed))
+    }
+
+    // What of a line the node is handed.
+    pub(crate) fn handed_line<'a>(&'a self, line: &'a [u8], passage: Passage) -> &'a [u8]
+        ensures { result.now ≡ handed_line self.now line.now passage }
+    {
+        match passage {
+            Passage::Whole | Passage::Done | Passage::Ask { .. } => line,
+            Passage::GiveBack { place } => self.returning(place),
+            Passage::Later | Passage::Holdout | Passage::Nothing => &[],
+        }
+    }
+
+    // The frame that gives back the lease at a place.
+    fn returning(&self, place: usize) -> &[u8]
+        ensures { result.now ≡ handed_line self.now [] (Passage.GiveBack place) }
+    {
+        if place < self.askers.len() {
+            return self.askers[place].returning();
+        }
+        &[]
+    }
+
+    // Takes note of the node's answer to a line, and leaves of its frames what the peer is told.
+    pub(crate) fn tell(&mut self, moment: u64, line: &[u8], passage: Passage, out: &mut Out)
+        ensures { TellsPeer moment line.now passage self.old out.old out.new self.new }
+    {
+        match passage {
+            Passage::Whole => self.hear(moment, out),
+            Passage::Done => {
+                self.forget(line);
+                self.hear(moment, out);
+            }
+            Passage::Ask { id, place, wait } => self.tell_asker(moment, id, place, wait, out),
+            Passage::GiveBack { place } => self.tell_back(moment, place, out),
+            Passage::Later => self.tell_later(out),
+            Passage::Holdout => {
+                out.frames.clear();
+                self.dismiss(Dismissal::Holdout);
+            }
+            Passage::Nothing => out.frames.clear(),
+        }
+    }
+
+    // The node answered to an `ASK`.
+    fn tell_asker(&mut self, moment: u64, id: u32, place: usize, wait: u64, out: &mut Out)
+        ensures { TellsPeer moment [] (Passage.Ask id place wait) self.old out.old out.new self.new }
+    {
+        match self.remember(moment, id, place, wait, &out.frames) {
+            Ok(()) => self.hear(moment, out),
+            Err(_) => {
+                out.frames.clear();
+                self.dismiss(Dismissal::NoMemory);
+            }
+        }
+    }
+
+    // A lease was given back.
+    fn tell_back(&mut self, moment: u64, place: usize, out: &mut Out)
+        ensures { TellsPeer moment [] (Passage.GiveBack place) self.old out.old out.new self.new }
+    {
+        if put_later(&mut out.frames) {
+            self.give_back(moment, place);
+        } else {
+            self.dismiss(Dismissal::NoMemory);
+        }
+    }
+
+    // Who asked comes later.
+    fn tell_later(&mut self, out: &mut Out)
+        ensures { TellsPeer 0 [] Passage.Later self.old out.old out.new self.new }
+    {
+        if !put_later(&mut out.frames) {
+            self.dismiss(Dismissal::NoMemory);
+        }
+    }
+
+    // The peer is let go.
+    fn dismiss(&mut self, why: Dismissal)
+        ensures { self.new ≡ dismissed_for why self.old }
+    {
+        self.dismissal = Some(why);
+    }
+
+    // The node answered to a line that it was handed.
+    fn hear(&mut self, moment: u64, out: &Out)
+        ensures { self.new ≡ with_answer moment out.now self.old }
+    {
+        self.count(moment, &out.append);
+        match out.note {
+            Note::Quiet | Note::Stale => {}
+            Note::Strange => self.dismiss(Dismissal::Strange),
+            Note::Refused(number) => self.dismiss(Dismissal::Refused(number)),
+        }
+    }
+
+    // The ledger gains this by a line.
+    fn count(&mut self, moment: u64, append: &[u8])
+        ensures { self.new ≡ brought moment append.now self.old }
+    {
+        if !append.is_empty() {
+            self.records = self.records.wrapping_add(1);
+            self.renewed = moment;
+        }
+    }
+
+    // A lease ends by this frame, if it gives one back.
+    fn forget(&mut self, frame: &[u8])
+        ensures { self.new ≡ forgotten frame.now self.old }
+    {
+        if let Some(place) = self.place_returned_by(frame) {
+            let _ = self.askers.remove(place);
+        }
+    }
+
+    fn place_returned_by(&self, frame: &[u8]) -> Option<usize>
+        ensures value { result ≡ position (is_returned_by frame.now) self.now.askers }
+        ensures within { IfSome result (λ place. place < length self.now.askers) }
+    {
+        self.askers
+            .iter()
+            .position(|asker| asker.is_returned_by(frame))
+    }
+
+    // Remembers the lease that an answer grants, if it grants one.
+    fn remember(
+        &mut self,
+        moment: u64,
+        id: u32,
+        place: usize,
+        wait: u64,
+        frames: &[u8],
+    ) -> Result<(), NoMemory>
+        ensures ok { OnOk result (self.new ≡ remembered moment id place wait (granted frames.now) self.old) }
+        ensures err { OnErr result (self.new ≡ self.old) }
+    {
+        let Some(lease) = granted(frames) else {
+            return Ok(());
+        };
+        let returning = lease.returning(self.alloc)?;
+        self.put(place, Asker::new(id, returning, self.records, moment, wait))
+    }
+
+    // Puts an asker at a place, or behind the others.
+    fn put(&mut self, place: usize, asker: Asker) -> Result<(), NoMemory>
+        ensures ok { OnOk result (self.new ≡ record self.old { askers = put_at place asker self.old.askers }) }
+        ensures err { OnErr result (self.new ≡ self.old) }
+    {
+        if place < self.askers.len() {
+            self.askers[place] = asker;
+            return Ok(());
+        }
+        match self.askers.push(asker) {
+            Ok(()) => Ok(()),
+            Err(_) => Err(NoMemory),
+        }
+    }
+
+    // The lease at a place is given back.
+    fn give_back(&mut self, moment: u64, place: usize)
+        ensures { self.new ≡ given_back moment place self.old }
+    {
+        if place < self.askers.len() {
+            self.askers[place].give_back(moment);
+        }
+    }
+
+    // Gives back each lease that the peer has: a node is handed the frames that do it.
+    pub(crate) fn give_back_all<N: Node, W: LedgerOut>(
+        &self,
+        node: &mut N,
+        ledger: &mut W,
+    ) -> Result<(), TurnFault>
+        ensures ok { OnOk result (Handed N.answers (scene node.old (W.text ledger.old) None)
+            (returned self.now.askers) [] (scene node.new (W.text ledger.new) None)) }
+        ensures err { IfErr result (λ fault. (fault ≢ Unlinked) × ((left : List Happening)
+            × BrokenOff N.answers N.is_stopped (scene node.old (W.text ledger.old) None) (returned self.now.askers)
+            fault left (scene node.new (W.text ledger.new) None))) }
+        ensures ends { EndsInStep N.in_step result (devices node.old (W.text ledger.old) 0 (W.failures ledger.old))
+            (devices node.new (W.text ledger.new) 0 (W.failures ledger.new)) }
+    {
+        let mut place = 0;
+        'askers: while place < self.askers.len() {
+            self.askers[place].return_lease(node, ledger)?;
+            place += 1;
+        }
+        Ok(())
+    }
+}
+
+#[tactic(auto, unfolding(wire::specs::Grammar::message_text))]
+// Puts the frame `LATER` in place of others, and says whether there was memory for it; where there wasn't, there is no frame.
+fn put_later(frames: &mut Vec<u8>) -> bool
+    ensures told { result ≡ true → frames.new.items ≡ later_frame }
+    ensures refused { result ≡ false → frames.new.items ≡ [] }
+{
+    frames.clear();
+    frames.extend_from_slice(b"LATER\n").is_ok()
+}

@@ -5,6 +5,7 @@
 # Where there are no options they are --hard. LEDGER names the coordinator's ledger, which a run that was stopped goes on from
 # (none is kept if it isn't set). BB names the program (bb beside contrib/ if it isn't set), JOBS how many processes work (one for
 # each processor). The report comes on standard output, how far it is on standard error, and the exit status is that of bb coord.
+# Workers come over a socket file, which is its owner's alone, so holdouts are taken of them.
 set -e
 states=${1:?"contrib/all.sh N [OPTIONS..]"}
 shift
@@ -16,7 +17,7 @@ folder=$(mktemp -d)
 workers=
 trap 'kill $workers 2> /dev/null || true; rm -rf "$folder"' EXIT
 trap 'kill $coordinator 2> /dev/null; exit 130' INT TERM
-"$bb" coord "$states" --listen "$folder/socket" ${LEDGER:+--ledger "$LEDGER"} &
+"$bb" coord "$states" --listen "$folder/socket" --accept-holdouts ${LEDGER:+--ledger "$LEDGER"} &
 coordinator=$!
 until [ -S "$folder/socket" ] || ! kill -0 "$coordinator" 2> /dev/null; do sleep 0.05; done
 for job in $(seq "$jobs"); do

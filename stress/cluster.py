@@ -2,7 +2,7 @@
 """A coordinator that listens, and workers that connect, on the built program: crowds, kills, hostile peers and a cable that
 is pulled. Each run has to end with the report of `bb run`, and whatever was acknowledged has to stand in the ledger.
 
-stress/cluster.py [--states N] [--seed S] [WAY..]: the ways are
+stress/cluster.py [--states N] [--seed S] [--token] [WAY..]: with --token coordinators and workers share one; the ways are
 
     socket    contrib/all.sh, over a socket file
     crowd     50 processes of workers over TCP
@@ -10,6 +10,8 @@ stress/cluster.py [--states N] [--seed S] [WAY..]: the ways are
     killed    a coordinator that is killed and begun again, ten times, with its workers behind relays that see each ACK; with
               workers that are killed too it is a way of stress/killed.py
     hostile   random bytes, half frames, lines without end, nothing, frames with others' ids and leases, frames without reading
+    strangers each kind of peer of stress/strangers.py alone (--kinds NAME,NAME for some), beside two processes of workers: the run
+              has to end in at most twice the time without it (and 5 seconds), the coordinator with at most 1.3 times the memory
     cable     two hosts in network namespaces whose link is down for SECONDS (--down, 90 unless said), as root alone
 
 all but `cable` where none is named. Prints a line for each, and ends with 1 at the first that goes wrong."""
@@ -29,7 +31,11 @@ import time
 TOP = os.path.dirname(os.path.dirname(os.path.abspath(__file__)))
 sys.path.insert(0, os.path.join(TOP, "bench"))
 from program import PROGRAM  # noqa: E402
+import strangers  # noqa: E402
 
+
+# What coordinators and workers are given beside the rest: a token's file, where there is one.
+TOKEN = []
 
 # By what programs are ended: none of these is answered, and nothing that was acknowledged may be lost by one.
 ENDS = itertools.cycle((signal.SIGKILL, signal.SIGTERM, signal.SIGINT))
@@ -46,6 +52,8 @@ class Coordinator:
 
     def __init__(self, states, folder, address, before=()):
         self.states, self.address, self.before = states, address, list(before)
+        # Where other computers can reach it, either a token is asked for, or that anyone may come is said.
+        self.open = ["--open"] if ":" in str(address) else []
         self.ledger = os.path.join(folder, "coordinator.ledger")
         self.era = 0
         self.begin()
@@ -54,7 +62,7 @@ class Coordinator:
         self.era += 1
         self.process = subprocess.Popen(
             self.before + [PROGRAM, "coord", str(self.states), "--listen", str(self.address), "--ledger", self.ledger,
-                           "--era", str(self.era)], stdout=subprocess.PIPE, stderr=subprocess.PIPE)
+                           "--era", str(self.era), "--per-address", "1000", *(TOKEN or self.open)], stdout=subprocess.PIPE, stderr=subprocess.PIPE)
 
     def kill(self):
         end = next(ENDS)
@@ -76,7 +84,7 @@ class Coordinator:
 def worker(address, ids, tries=1000, before=(), first=None):
     words = ["--id", str(first)] if first is not None else []
     return subprocess.Popen(
-        list(before) + [PROGRAM, "work", "--connect", str(address), "--ids", str(ids), "--tries", str(tries), "--hard"] + words,
+        list(before) + [PROGRAM, "work", "--connect", str(address), "--ids", str(ids), "--tries", str(tries), "--hard", *TOKEN] + words,
         stdout=subprocess.DEVNULL, stderr=subprocess.PIPE)
 
 
@@ -266,6 +274,52 @@ def hostile(states, expected, folder, chance):
     return f"{len(peers)} peers of {len(kinds)} kinds"
 
 
+def peak(process):
+    """The most memory that a process has had, in kilobytes; 0 once it is gone."""
+    try:
+        with open(f"/proc/{process.pid}/status", encoding="ascii") as told:
+            return next((int(line.split()[1]) for line in told if line.startswith("VmHWM")), 0)
+    except OSError:
+        return 0
+
+
+def beside(states, expected, folder, stranger, chance):
+    """A run of two processes of workers beside a stranger, or none: its seconds, and the coordinator's memory in kilobytes."""
+    port = free_port()
+    coordinator = Coordinator(states, folder, port)
+    stop = threading.Event()
+    thread = threading.Thread(target=stranger, args=(port, stop, chance), daemon=True) if stranger else None
+    if thread:
+        thread.start()
+        time.sleep(1)
+    before, memory = time.time(), 0
+    workers = [worker(port, 16, first=1 + 64 * place) for place in range(2)]
+    while coordinator.process.poll() is None and time.time() < before + 300:
+        memory = max(memory, peak(coordinator.process))
+        time.sleep(0.02)
+    seconds = time.time() - before
+    stop.set()
+    check(stranger.__doc__ if stranger else "alone", coordinator, expected, 5, workers)
+    if thread:
+        thread.join(10)
+    os.remove(coordinator.ledger)
+    return seconds, memory
+
+
+def with_strangers(states, expected, folder, chance, names):
+    """Each kind of stranger beside honest workers."""
+    kinds = strangers.kinds(states)
+    alone, least = beside(states, expected, folder, None, chance)
+    print(f"    alone: {alone:.1f} s, {least / 1024:.0f} MB", flush=True)
+    for name in names or kinds:
+        seconds, memory = beside(states, expected, folder, kinds[name], random.Random(chance.random()))
+        print(f"    {name}: {seconds:.1f} s, {memory / 1024:.0f} MB", flush=True)
+        if seconds > 2 * alone + 5 or memory > 1.3 * least + 4096:
+            print(f"strangers: beside {name} it takes too much")
+            sys.exit(1)
+    return f"{len(names or kinds)} kinds"
+
+
 def cable(states, expected, folder, down):
     """Two hosts with a link between them."""
     run = lambda words: subprocess.run(words.split(), check=True)  # noqa: E731
@@ -298,12 +352,18 @@ def main():
     parser.add_argument("--states", type=int, default=3)
     parser.add_argument("--seed", type=int, default=1)
     parser.add_argument("--down", type=int, default=90)
+    parser.add_argument("--token", action="store_true", help="coordinators and workers share a token")
+    parser.add_argument("--kinds", type=lambda words: words.split(","), default=[])
     parser.add_argument("ways", nargs="*")
     asked = parser.parse_args()
     signal.signal(signal.SIGPIPE, signal.SIG_IGN)
     signal.signal(signal.SIGINT, signal.default_int_handler)
     chance = random.Random(asked.seed)
     states = asked.states
+    if asked.token:
+        with tempfile.NamedTemporaryFile(delete=False) as file:
+            file.write(os.urandom(16).hex().encode() + b"\n")
+        TOKEN.extend(["--token", file.name])
     expected = subprocess.run([PROGRAM, "run", str(states), "--hard"], stdout=subprocess.PIPE, check=True).stdout
     ways = {
         "socket": lambda folder: over_socket(states, expected),
@@ -311,6 +371,7 @@ def main():
         "workers": lambda folder: killed_workers(states, expected, folder, chance),
         "killed": lambda folder: "%d times, %d workers; %d tables acknowledged, none lost" % killed_coordinator(states, expected, folder, chance, 10, 0),
         "hostile": lambda folder: hostile(states, expected, folder, chance),
+        "strangers": lambda folder: with_strangers(states, expected, folder, chance, asked.kinds),
         "cable": lambda folder: cable(states, expected, folder, asked.down),
     }
     for way in asked.ways or [name for name in ways if name != "cable"]:

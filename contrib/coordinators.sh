@@ -1,0 +1,33 @@
+#!/bin/sh
+# Settles the tree of N states by several coordinators, each with a part of the tree and workers of its own, and says how it stands:
+#   contrib/coordinators.sh N DIR [OPTIONS OF bb work..]
+# `bb split` cuts the tree into a trunk and parts, ledgers in DIR. Each part then has a coordinator (`bb coord PART --listen`) and
+# WORKERS processes of workers (1 if it isn't set), JOBS parts at once (half as many as there are processors if it isn't set), and
+# `bb join` judges all of them again and prints the report, with its exit status. Where there are no options they are --hard. BB names the
+# program (bb beside contrib/ if it isn't set), FILLED how many entries the tables of the trunk have (N, at most 5, if it isn't
+# set). DIR is made, or gone on with where it was stopped. Several computers share a tree where each is given some of the parts.
+set -e
+states=${1:?"contrib/coordinators.sh N DIR [OPTIONS..]"}
+folder=${2:?"contrib/coordinators.sh N DIR [OPTIONS..]"}
+shift 2
+[ $# -gt 0 ] || set -- --hard
+# The script bb sums up its sources each time: it is asked once which program it runs.
+bb=${BB:-$("$(dirname "$0")/../bb" --where)}
+jobs=${JOBS:-$((($(getconf _NPROCESSORS_ONLN) + 1) / 2))}
+"$bb" split "$states" "$folder" --filled "${FILLED:-$((states < 5 ? states : 5))}" "$@" >&2
+# A part that keeps holdouts ends with 1, and is done too.
+find "$folder" -name '*.ledger' ! -name trunk.ledger | sort | xargs -P "$jobs" -I {} sh -c '
+    part=$1 workers=$2 working=
+    shift 2
+    place=$(mktemp -d)
+    trap "kill \$working 2> /dev/null || :; rm -rf \"$place\"" EXIT
+    "$0" coord "$part" --listen "$place/socket" --accept-holdouts > "$place/report" &
+    coordinator=$!
+    until [ -S "$place/socket" ] || ! kill -0 "$coordinator" 2> /dev/null; do sleep 0.01; done
+    for process in $(seq "$workers"); do
+        "$0" work --connect "$place/socket" --id $((process * 64)) --ids 16 "$@" 2> /dev/null &
+        working="$working $!"
+    done
+    wait "$coordinator" && status=0 || status=$?
+    [ "$status" -le 1 ] || { echo "$part: status $status" >&2; exit 255; }' "$bb" {} "${WORKERS:-1}" "$@"
+exec "$bb" join "$folder"

@@ -1,7 +1,7 @@
 #!/usr/bin/env python3
-"""What a coordinator that listens takes a record, and how many records a second it takes: `bb coord N --listen` with W processes of
-`bb work --ids K`, each row a run that has to end with the report of `bb run` (arguments: the states, 4 if none is given, and rows as
-W:K, W:K:socket or W:K:ledger). BB names the program, so that two programs are compared by two calls."""
+"""What a coordinator that listens takes a record, and how many records a second it takes: `bb coord N --listen` with W processes
+of `bb work --ids K`, each row a run that has to end with the report of `bb run` (arguments: the states, 4 if none is given, and
+rows as W:K, W:K:socket or W:K:ledger). BB names the program, so that two programs are compared by two calls."""
 import os
 import socket
 import subprocess
@@ -32,7 +32,6 @@ def ended(process):
 def measured(states, processes, ids, way, folder):
     """The seconds by the clock, those of the coordinator, and those of all workers; and the report."""
     address = os.path.join(folder, "socket") if way == "socket" else str(free_port())
-    # A program before holdouts were asked for by a word knows no such word.
     ledger = ["--ledger", os.path.join(folder, "ledger")] if way == "ledger" else []
     report = os.path.join(folder, "report")
     start = time.time()

@@ -3,9 +3,9 @@
 #   contrib/coordinators.sh N DIR [OPTIONS OF bb work..]
 # `bb split` cuts the tree into a trunk and parts, ledgers in DIR. Each part then has a coordinator (`bb coord PART --listen`) and
 # WORKERS processes of workers (1 if it isn't set), JOBS parts at once (half as many as there are processors if it isn't set), and
-# `bb join` judges all of them again and prints the report, with its exit status. Where there are no options they are --hard. BB names the
-# program (bb beside contrib/ if it isn't set), FILLED how many entries the tables of the trunk have (N, at most 5, if it isn't
-# set). DIR is made, or gone on with where it was stopped. Several computers share a tree where each is given some of the parts.
+# `bb join` judges all of them again and prints the report, with its exit status. Where there are no options they are --hard. BB
+# names the program (bb beside contrib/ if it isn't set), FILLED how many entries the tables of the trunk have (N, at most 5, if
+# it isn't set). DIR is made, or gone on with where it was stopped.
 set -e
 states=${1:?"contrib/coordinators.sh N DIR [OPTIONS..]"}
 folder=${2:?"contrib/coordinators.sh N DIR [OPTIONS..]"}

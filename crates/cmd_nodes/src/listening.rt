@@ -22,12 +22,8 @@ use wire::{LedgerOut, Node, TurnFault};
 // How many bytes of a worker are taken at once.
 const PIECE_BYTES: usize = 65_536;
 
-// How long a coordinator whose tree is settled waits for workers to ask, so that each is told to stop: as long as a lease
-// lasts, in seconds.
-const LINGER_SECONDS: u64 = 60;
-
-// And how long where none of them says anything.
-const SILENT_SECONDS: u64 = 5;
+// How long a coordinator whose tree is settled waits for workers to ask, so that each is told to stop, in seconds.
+const LINGER_SECONDS: u64 = 5;
 
 /// How a coordinator serves workers that connect.
 #[derive(Drop)]
@@ -41,9 +37,9 @@ pub struct Serving<'a, P> {
 }
 
 /// Settles the tree of the empty table by a coordinator and workers that connect, and prints the report in a form: once no
-/// table is open, and each worker is gone, or none has said anything for 5 seconds, or a minute is over. The coordinator's board
-/// begins with what `held` reads, and its records go to `ledger`, each before it is acknowledged. Accepted where the board is
-/// complete at the end. How far it is goes to `progress`.
+/// table is open, and each worker is gone or 5 seconds are over. The coordinator's board begins with what `held` reads, and its
+/// records go to `ledger`, each before it is acknowledged. Accepted where the board is complete at the end. How far it is goes
+/// to `progress`.
 pub fn serve_tree<
     P: ReportForm,
     F: Read + Drop,
@@ -191,5 +187,4 @@ fn is_over<N>(node: &Guarded<N>, settled: &mut Option<u64>) -> bool {
     let now = node.moment();
     let since = *settled.get_or_insert(now);
     now.saturating_sub(since) >= LINGER_SECONDS
-        || now.saturating_sub(since.max(node.heard())) >= SILENT_SECONDS
 }

@@ -46,7 +46,7 @@ unguarded {N} answers lines old [] new order e = record {
 unguarded answers [] old (reply ∷ replies) new order fulfils = absurd (cc)
 unguarded {N} answers (line ∷ lines) old (reply ∷ replies) new order (node, answer, others) =
     let to : event_of line ≡ reply.to = head_same _ _ _ _ order in
-    let (out, answered, tells, moment, heard, conduct) = subst (λ (h : Happening). Through answers old.node h (Ok reply.out) node) (sym to) answer in
+    let (out, answered, tells, moment, conduct) = subst (λ (h : Happening). Through answers old.node h (Ok reply.out) node) (sym to) answer in
     let more = unguarded answers lines (fulfilled reply.out node old) replies new (tail_same _ _ _ _ order) others in
     let kept = kept_same out reply.out old.text tells.0 tells.1 in
     record {

@@ -23,7 +23,7 @@ module _ {N : Type 0} where
   Through answers old (Came line) (Ok said) new =
       (out : Out) × answers old.node (handed_to old (Came line)) (Ok out) new.node
       × TellsPeer old.moment line (passage_at old line) old.guard out said new.guard
-      × (new.moment ≡ old.moment) × (new.heard ≡ old.moment) × (new.conduct ≡ old.conduct)
+      × (new.moment ≡ old.moment) × (new.conduct ≡ old.conduct)
   Through answers old (Came line) (Err fault) new =
       answers old.node (handed_to old (Came line)) (Err fault) new.node × (new ≡ record old { node = new.node })
   Through answers old (Ticked moment) (Ok out) new =

@@ -16,21 +16,18 @@ pub struct Guarded<N> {
     guard: Guard,
     // The moment that it was told last.
     moment: u64,
-    // The moment at which a line came last.
-    heard: u64,
     conduct: Conduct,
 }
 
 impl<N> Guarded<N> {
     /// A node that hears nobody yet.
     pub fn new(alloc: Global, node: N, conduct: Conduct) -> Guarded<N>
-        ensures { result ≡ record { node = node; guard = fresh; moment = 0; heard = 0; conduct = conduct } }
+        ensures { result ≡ record { node = node; guard = fresh; moment = 0; conduct = conduct } }
     {
         Guarded {
             node,
             guard: Guard::new(alloc),
             moment: 0,
-            heard: 0,
             conduct,
         }
     }
@@ -47,13 +44,6 @@ impl<N> Guarded<N> {
         ensures { result ≡ self.now.moment }
     {
         self.moment
-    }
-
-    /// The moment at which a line of a peer came last; 0 at first.
-    pub fn heard(&self) -> u64
-        ensures { result ≡ self.now.heard }
-    {
-        self.heard
     }
 
     // The moment is now this one.
@@ -92,7 +82,6 @@ impl<N: Node> Node for Guarded<N> {
                 let handed = self.guard.handed_line(line, passage);
                 let mut out = self.node.on(Event::Frame(handed))?;
                 self.guard.tell(self.moment, line, passage, &mut out);
-                self.heard = self.moment;
                 Ok(out)
             }
             Event::Tick(moment) => {

@@ -16,5 +16,4 @@ returns-in_ok-out-in-Frame-clause-answer g c =
       subst (λ (p : Passage). TellsPeer c.args.self.now.moment line p c.args.self.now.guard out c.tell.new.out c.tell.new.self) is c.tell.ensures,
       refl,
       refl,
-      refl,
     )

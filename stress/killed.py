@@ -2,7 +2,7 @@
 """Commands that write a ledger, each ended at random moments, by SIGKILL, SIGTERM and SIGINT in turn, and given again: nothing
 that was acknowledged is lost, and no file is left that is neither the old one nor the new one.
 
-stress/killed.py [--turns T] [--states N] [--seed S] [WAY..]: the ways, all but `listen` where none is named, are
+stress/killed.py [--turns T] [--states N] [--seed S] [--token] [WAY..]: the ways, all but `listen` where none is named, are
 
     coord     bb coord over standard input, on records of three states. In half of the turns a line is spoilt first, and the
               coordinator that cuts it is ended too: but for the spoilt table and those below it `bb mend` of the ledger and
@@ -16,7 +16,8 @@ stress/killed.py [--turns T] [--states N] [--seed S] [WAY..]: the ways, all but 
               a ledger with holdouts, or open tables: its lines are a beginning of those that an undisturbed command leaves. In
               half of the turns a line is spoilt first: then each other line that stood there stands in FILE or in FILE.cut
     listen    T times bb coord --listen of N states (four, if not said), killed twelve times, and three processes of workers, of
-              which one is killed every second or so, behind relays that see each ACK (stress/cluster.py)
+              which one is killed every second or so, behind relays that see each ACK (stress/cluster.py); with --token
+              they have the same
 
 with T turns each (50; of `listen` once). Where nothing was spoilt, `bb mend` of the ledger that is there in the end drops
 nothing. Prints a line for each way, and ends with 1 at the first fault."""
@@ -313,8 +314,11 @@ def main():
     parser.add_argument("--turns", type=int)
     parser.add_argument("--states", type=int, default=4)
     parser.add_argument("--seed", type=int, default=1)
+    parser.add_argument("--token", action="store_true", help="coordinators and workers share a token")
     parser.add_argument("ways", nargs="*")
     asked = parser.parse_args()
+    if asked.token:
+        cluster.share_token()
     # What is begun in the background by a shell ignores it, and so would all that is begun here.
     signal.signal(signal.SIGINT, signal.default_int_handler)
     ways = {way.__name__: way for way in (coord, run, merge, carry, mend, join, retry, settle)}

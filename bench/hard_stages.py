@@ -36,7 +36,7 @@ def said(match):
         "words": lambda: f"automata from words ({fields[0]}, {fields[1]}, {fields[2]}), up to 2,000 states and 10,000 edges",
         "FurtherWords": lambda: "automata from words by the stages 3 to 11 of `--words`",
         "automata": lambda: f"automata with {fields[0]} named states, {fields[1]:,} tries a side",
-        "Halting": lambda: "halting within 50,000,000 steps",
+        "Halting": lambda: "halting within 100,000,000 steps",
         "Cycles": lambda: "cycles by time 10,000,000",
         "TranslatedCycles": lambda: "translated cycles by time 10,000,000",
         "Counted": lambda: "counted automata of up to 12 counts, learned from 2,000 steps",

@@ -54,6 +54,17 @@ def tables_of_six(folder):
     return [line.split()[0] for line in drawn.stdout.splitlines()[:TABLES]]
 
 
+def in_parts(folder):
+    """The ledgers of four states in 188 parts, one after another."""
+    tree = os.path.join(folder, "tree")
+    subprocess.run([PROGRAM, "split", "4", tree, "--filled", "3", "--hard"], stdout=subprocess.DEVNULL, check=True)
+    for name in os.listdir(tree):
+        if name != "trunk.ledger":
+            subprocess.run([PROGRAM, "settle", os.path.join(tree, name), "--hard"], stdout=subprocess.DEVNULL, check=True)
+    packed = [os.path.join(TOP, "contrib", "pack.sh"), tree]
+    return subprocess.run(packed, stdout=subprocess.PIPE, stderr=subprocess.DEVNULL, check=True).stdout
+
+
 def rows(folder):
     """Each command by its name: its words, its input, the files that it begins with, and how many tables or records it has."""
     with lzma.open(os.path.join(TOP, "examples", "four-states.ledger.xz")) as file:
@@ -72,6 +83,7 @@ def rows(folder):
         ("report, four states", ["report", "-"], part, [], 100_000),
         ("decide --hard, five states", ["decide", "--hard"], five, [], TABLES),
         ("decide --hard, six states", ["decide", "--hard"], six, [], TABLES),
+        ("join -, four states in 188 parts", ["join", "-"], in_parts(folder), [], 858_909),
         ("settle --hard, three states", ["settle", "ledger", "--hard"], b"", [("ledger", three)], 5_417),
         ("run 3 --hard", ["run", "3", "--hard"], b"", [], 5_417),
         ("walk 3 --hard", ["walk", "3", "--hard"], b"", [], 5_417),

@@ -1,5 +1,5 @@
 -- A ledger stays in step with a board when a record is taken and its line is appended; and the holdouts that are left stay holdouts.
-use Rattle.std.proofs.Common.{◌≡◌, ◌≢◌, ◌⊎◌, inl, inr, ℕ, suc, true, false, List, [], ◌∷◌, ◌++◌, append_assoc, append-nil, All, AllPairs, get_or, Option, Some, None, Result, Ok, IfSome, IsSome, take, refl, sym, ap, ◌∙◌, subst, arith}
+use Rattle.std.proofs.Common.{◌≡◌, ◌≢◌, ◌⊎◌, inl, inr, ℕ, suc, List, [], ◌∷◌, ◌++◌, append_assoc, append-nil, All, AllPairs, get_or, Option, Some, None, Result, Ok, IfSome, IsSome, take, refl, sym, ap, ◌∙◌, subst, arith}
 use Rattle.std.specs.Option.{option_map}
 use Rattle.std.proofs.lemmas.List.Elements.{All-contains_itself}
 use Rattle.machine_text.specs.Packed.{Packed}
@@ -9,7 +9,7 @@ use Rattle.cert.specs.Claim.{Recorded, ending_by}
 use Rattle.cert.specs.Scored.{with_score}
 use Rattle.ledger.specs.Contents.{Contents, IsBoard}
 use Rattle.ledger.specs.Held.{IsHoldout, Resolves, resolved}
-use Rattle.ledger.specs.LedgerText.{IsLedgerOf, IsTaken, ReadsIn, gained_line}
+use Rattle.ledger.specs.LedgerText.{IsLedgerOf, IsTaken, OffersLine, ReadsIn, gained_line}
 use Rattle.ledger.specs.Offers.{OfferGives}
 use Rattle.ledger.specs.Records.{mark_of}
 use Rattle.ledger.specs.Tally.{AreAll}
@@ -24,9 +24,11 @@ use Rattle.ledger.proofs.Growing.{grows, cut_to_kept}
 use Rattle.ledger.proofs.OpenLaws.{settled_other}
 use Rattle.ledger.proofs.TextOrder.{all_apart}
 use Rattle.wire.specs.Fulfilled.{cut_to}
-use Rattle.wire.specs.Device.{IsBegun, grown}
+use Rattle.wire.specs.Device.{grown}
 use Rattle.cmd_ledgers.specs.GoingOn.{kept_part}
-use Rattle.cmd_ledgers.specs.Retry.{StaysInStep, ResolvesOrStays, ChangesBy, IsTried, AreTried, AreRetried, LeavesRetried, MayTear, gained, with_line}
+use Rattle.cmd_ledgers.specs.Gathered.{HasGrown, HasPartOf}
+use Rattle.cmd_ledgers.specs.Retry.{StaysInStep, ChangesBy, IsTried, AreTried, AreRetried, LeavesTried, MayTry, gained, with_line}
+use Rattle.cmd_ledgers.proofs.Gathered.{one_more_line, part_later}
 
 -- a ledger that is cut to what was kept of it
 pub cut_in_step : (b : Contents) (before after : Option (List ℕ)) (line kept : ℕ) (why : Unkept) → after ≡ cut_to (Some kept) before
@@ -53,35 +55,6 @@ pub stays_by : (old new : Contents) (r : Recorded) (before after : Option (List 
 stays_by old new r before after board taken root format is =
     subst (λ (text : Option (List ℕ)). StaysInStep old before new text) (sym is) (stays_with old new r before board taken root format)
 
--- a ledger that gained the line of a record
-pub one_line : (format : Format) (r : Recorded) (line begun : List ℕ) (before after : Option (List ℕ)) → line ≡ begun ++ gained format r → begun ≡ [] → after ≡ grown before line
-    → after ≡ with_line format r before
-one_line format r line begun before after is none gains = gains ∙ ap (grown before) (is ∙ ap (λ (l : List ℕ). l ++ gained format r) none)
-
--- what comes of an offer of a record for a holdout: it is never new, and known only where it has no verdict
-module _ (format : Format) (root : Packed) (old new : List Recorded) (r : Recorded) (lines new_lines : List ℕ) (result : Result Taken OfferFault) (gives : OfferGives root old r result new)
-    (line : new_lines ≡ lines ++ gained_line format r result) where
-  pub new_holdout : IsHoldout old r.table → result ≡ Ok New → ResolvesOrStays format r true old lines new new_lines
-  new_holdout holdout is =
-      let fit : OfferGives root old r (Ok New) new = subst (λ (x : Result Taken OfferFault). OfferGives root old r x new) is gives in
-      let unmarked = fit.0.is_open.unmarked in
-      absurd (cc)
-
-  pub settled_holdout : result ≡ Ok Settled → ResolvesOrStays format r true old lines new new_lines
-  settled_holdout is =
-      let resolves : OfferGives root old r (Ok Settled) new = subst (λ (x : Result Taken OfferFault). OfferGives root old r x new) is gives in
-      (resolves.0, resolves.1, line ∙ ap (λ (x : Result Taken OfferFault). lines ++ gained_line format r x) is)
-
-  pub known_holdout : IsHoldout old r.table → result ≡ Ok Known → ResolvesOrStays format r false old lines new new_lines
-  known_holdout holdout is =
-      let known : OfferGives root old r (Ok Known) new = subst (λ (x : Result Taken OfferFault). OfferGives root old r x new) is gives in (
-        elim known.0.is [
-          | inl verdict ↦ absurd (subst IsVerdict holdout verdict)
-          | inr later ↦ later.1
-        ],
-        known.1,
-      )
-
 -- what its offer changes
 pub changes_settled : (format : Format) (o : Option Ending) (r : Recorded) (old new : List Recorded) (before after : Option (List ℕ)) → IsSome o
     → Resolves old r → new ≡ resolved old (with_score r) → after ≡ with_line format r before → ChangesBy format o r old before new after
@@ -96,6 +69,50 @@ changes : (format : Format) (o : Option Ending) (r : Recorded) (old new : List R
     → (new ≡ old) ⊎ (new ≡ resolved old (with_score r))
 changes format None r old new before after by = inl by.0
 changes format (Some v) r old new before after by = inr by.1
+
+-- what comes of an offer of a record for a holdout: it is never new, and known only where it has no verdict
+module _ (old new : Contents) (r : Recorded) (lines new_lines : List ℕ) (result : Result Taken OfferFault) (offers : OffersLine r result old lines new new_lines) where
+  same_line : (known : result ≡ Ok Known) → Some new_lines ≡ Some lines
+  same_line known = ap Some (offers.line ∙ ap (λ (x : Result Taken OfferFault). lines ++ gained_line old.format r x) known ∙ append-nil lines)
+
+  pub offer_changes : (taken : Taken) → IsHoldout old.records r.table → result ≡ Ok taken → ChangesBy old.format (ending_by r.claim) r old.records (Some lines) new.records (Some new_lines)
+  offer_changes New holdout is =
+      let fit : OfferGives old.root old.records r (Ok New) new.records = subst (λ (x : Result Taken OfferFault). OfferGives old.root old.records r x new.records) is offers.gives in
+      let unmarked = fit.0.is_open.unmarked in
+      absurd (cc)
+  offer_changes Settled holdout is =
+      let resolves : OfferGives old.root old.records r (Ok Settled) new.records = subst (λ (x : Result Taken OfferFault). OfferGives old.root old.records r x new.records) is offers.gives in
+      changes_settled old.format (ending_by r.claim) r old.records new.records (Some lines) (Some new_lines) resolves.0.verdict resolves.0 resolves.1
+      (ap Some (offers.line ∙ ap (λ (x : Result Taken OfferFault). lines ++ gained_line old.format r x) is))
+  offer_changes Known holdout is =
+      let known : OfferGives old.root old.records r (Ok Known) new.records = subst (λ (x : Result Taken OfferFault). OfferGives old.root old.records r x new.records) is offers.gives in
+      let none : ending_by r.claim ≡ None = elim known.0.is [
+        | inl verdict ↦ absurd (subst IsVerdict holdout verdict)
+        | inr later ↦ later.1
+      ] in
+      changes_none old.format (ending_by r.claim) r old.records new.records (Some lines) (Some new_lines) none known.1 (same_line is)
+
+-- what changes lines that are gathered changes a ledger with them behind it
+pub changes_behind : (format : Format) (o : Option Ending) (r : Recorded) (old new : List Recorded) (text : Option (List ℕ)) (lines new_lines : List ℕ) → ChangesBy format o r old (Some lines) new (Some new_lines)
+    → ChangesBy format o r old (grown text lines) new (grown text new_lines)
+changes_behind format None r old new text lines new_lines by = let same : new_lines ≡ lines = (let is = by.1 in cc) in (by.0, ap (grown text) same)
+changes_behind format (Some v) r old new text lines new_lines by = let is : new_lines ≡ lines ++ gained format r = (let is = by.2 in cc) in (by.0, by.1, one_more_line format r text lines new_lines is)
+
+-- a holdout that is tried keeps a ledger in step
+changed_in_step : (old new : Contents) (o : Option Ending) (r : Recorded) (before after : Option (List ℕ)) → IsBoard old → new.root ≡ old.root → new.format ≡ old.format → ChangesBy old.format o r old.records before new.records after
+    → StaysInStep old before new after
+changed_in_step old new None r before after board root format by =
+    let is : new ≡ old = (let records : new.records ≡ old.records = by.0 in λ i. record { root = root i; records = records i; format = format i }) in
+    subst (λ (text : Option (List ℕ)). StaysInStep old before new text) (sym by.1) (subst (λ (b : Contents). StaysInStep old before b before) (sym is) (λ s. s))
+changed_in_step old new (Some v) r before after board root format by = stays_by old new r before after board (inr (by.0, by.1)) root format by.2
+
+module _ (Answers : Packed → Recorded → Type 0) (t : Packed) (old new : Contents) where
+  pub tried_behind : (text : Option (List ℕ)) (lines new_lines : List ℕ) → IsTried Answers old.format t old.records (Some lines) new.records (Some new_lines)
+      → IsTried Answers old.format t old.records (grown text lines) new.records (grown text new_lines)
+  tried_behind text lines new_lines (r, answered, of, by) = (r, answered, of, changes_behind old.format (ending_by r.claim) r old.records new.records text lines new_lines by)
+
+  pub tried_in_step : (before after : Option (List ℕ)) → IsBoard old → new.root ≡ old.root → new.format ≡ old.format → IsTried Answers old.format t old.records before new.records after → StaysInStep old before new after
+  tried_in_step before after board root format (r, answered, of, by) = changed_in_step old new (ending_by r.claim) r before after board root format by
 
 -- tables that wait to be tried: holdouts, each once
 pub record AreWaiting (rs : List Recorded) (ts : List Packed) : Type 0 where
@@ -150,22 +167,28 @@ pub all_tried : (Answers : Packed → Recorded → Type 0) (old new : Contents) 
 all_tried Answers old new before after tried left none all are =
     (tried, subst (AreAll (IsHoldout old.records)) (ap (λ (l : List Packed). tried ++ l) none ∙ append-nil tried) all, are)
 
--- it ends at one that is left
-pub stops_at : (Answers : Packed → Recorded → Type 0) (old new : Contents) (format : Format) (mid : List Recorded) (before text after : Option (List ℕ)) (tried : List Packed) (t : Packed) (left rest : List Packed) →
-    left ≡ t ∷ rest → format ≡ old.format → AreAll (IsHoldout old.records) (tried ++ left) → AreTried Answers old.format tried old.records before mid text →
-    MayTear Answers format t mid text new.records after → LeavesRetried Answers old before new after
-stops_at Answers old new format mid before text after tried t left rest is was all are ends = inr (inl (record {
+-- it ends at one that is left: there nothing has changed, or it was tried too
+pub ends_at : (Answers : Packed → Recorded → Type 0) (old new : Contents) (format : Format) (mid : List Recorded) (before held text whole after : Option (List ℕ)) (tried : List Packed) (t : Packed) (left rest : List Packed)
+    → left ≡ t ∷ rest → format ≡ old.format → AreAll (IsHoldout old.records) (tried ++ left) → AreTried Answers old.format tried old.records before mid text
+    → MayTry Answers format t mid text new.records whole → HasGrown before held → HasPartOf whole held after → LeavesTried Answers old before new after
+ends_at Answers old new format mid before held text whole after tried t left rest is was all are (inl (same, same_text)) more part = inr (record {
   tried = tried;
-  at = t;
-  later = rest;
-  are_all = subst (λ (l : List Packed). AreAll (IsHoldout old.records) (tried ++ l)) is all;
-  mid = mid;
-  text = text;
-  are_tried = are;
-  ends = subst (λ (f : Format). MayTear Answers f t mid text new.records after) was ends;
-}))
-
--- the ledger has no more than a beginning of the line of a record
-pub torn_line : (format : Format) (r : Recorded) (line begun : List ℕ) (before after : Option (List ℕ)) → line ≡ begun ++ gained format r → begun ≡ [] → IsBegun before line after
-    → IsBegun before (gained format r) after
-torn_line format r line begun before after is none (k, torn) = (k, torn ∙ ap (λ (l : List ℕ). grown before (take k l)) (is ∙ ap (λ (l : List ℕ). l ++ gained format r) none))
+  later = left;
+  are_all = all;
+  whole = whole;
+  are_tried = subst (λ (l : List Recorded). AreTried Answers old.format tried old.records before l whole) (sym same)
+      (subst (λ (o : Option (List ℕ)). AreTried Answers old.format tried old.records before mid o) (sym same_text) are);
+  part = part_later before held whole after more part;
+})
+ends_at Answers old new format mid before held text whole after tried t left rest is was all are (inr here) more part =
+    let (now_tried, now_all, now_are) =
+    one_tried (IsHoldout old.records) Answers old.format tried t left rest old.records mid new.records before text whole is all are
+    (subst (λ (f : Format). IsTried Answers f t mid text new.records whole) was here) in
+    inr (record {
+      tried = now_tried;
+      later = rest;
+      are_all = now_all;
+      whole = whole;
+      are_tried = now_are;
+      part = part_later before held whole after more part;
+    })

@@ -1,5 +1,5 @@
 -- A board and its ledger, while holdouts are tried again.
-use Rattle.std.specs.Prelude.{◌≡◌, ◌⊎◌, ℕ, Bool, true, false, List, [], ◌∷◌, ◌++◌, Option, Some, None, IfSome, Result, OnOk}
+use Rattle.std.specs.Prelude.{◌≡◌, ◌⊎◌, ℕ, List, [], ◌∷◌, ◌++◌, Option, Some, None, IfSome, Result, OnOk}
 use Rattle.machine_text.specs.Packed.{Packed}
 use Rattle.kind_evidence.specs.declared.verdicts.Ending.{Ending}
 use Rattle.cert.specs.Claim.{Recorded, ending_by}
@@ -12,6 +12,7 @@ use Rattle.ledger.specs.Versions.{ledger_line}
 use Rattle.ledger.specs.declared.format.Format.{Format}
 use Rattle.wire.specs.Device.{IsBegun, grown}
 use Rattle.cmd_options.specs.declared.ended.Ended.{Ended}
+use Rattle.cmd_ledgers.specs.Gathered.{HasPartOf}
 
 -- where a ledger's text was known and in step with the old board, it is in step with the new one
 abbrev pub StaysInStep : Contents → Option (List ℕ) → Contents → Option (List ℕ) → Type 0
@@ -27,13 +28,6 @@ pub record KeepsInStep {T : Type 0} (result : Result T Ended) (old : Contents) (
 -- the line of a record that a ledger gains, with its score in version 2
 abbrev pub gained : Format → Recorded → List ℕ
 gained format r = ledger_line format (with_score r) ++ (10 ∷ [])
-
--- whether a record for a holdout is taken, as it is where it has a verdict: it stands in the holdout's place with its
--- score, and its line is appended; where it isn't taken, the records stay as they were
-abbrev pub ResolvesOrStays : Format → Recorded → Bool → List Recorded → List ℕ → List Recorded → List ℕ → Type 0
-ResolvesOrStays format r true old lines new new_lines = Resolves old r × (new ≡ resolved old (with_score r))
-    × (new_lines ≡ lines ++ gained format r)
-ResolvesOrStays format r false old lines new new_lines = (ending_by r.claim ≡ None) × (new ≡ old)
 
 -- a ledger's text, where it is known, with the line of a record behind it
 abbrev pub with_line : Format → Recorded → Option (List ℕ) → Option (List ℕ)
@@ -100,8 +94,32 @@ pub record TriesFirst (Answers : Packed → Recorded → Type 0) (old : Contents
   pub are_tried : AreTried Answers old.format tried old.records before mid text
   pub ends : MayTear Answers old.format at mid text new.records after
 
--- what an early end leaves of a board and its ledger: nothing has changed, or the first holdouts were tried, or all
+-- what an early end leaves of a ledger, and of a board that has no more records than it: nothing has changed, or the first
+-- holdouts were tried, or all
 abbrev pub LeavesRetried : (Packed → Recorded → Type 0) → Contents → Option (List ℕ) → Contents → Option (List ℕ)
     → Type 0
 LeavesRetried Answers old before new after = ChangesNothing old.records before new.records after
     ⊎ (TriesFirst Answers old before new after ⊎ AreRetried Answers old before new after)
+
+-- nothing has changed, or a holdout was tried
+abbrev pub MayTry : (Packed → Recorded → Type 0) → Format → Packed → List Recorded → Option (List ℕ) → List Recorded
+    → Option (List ℕ) → Type 0
+MayTry Answers format t old before new after =
+    ChangesNothing old before new after ⊎ IsTried Answers format t old before new after
+
+-- the first of the holdouts that a board had were tried, or all of them; of what its ledger was to gain by that it has a
+-- beginning
+pub record HasTried (Answers : Packed → Recorded → Type 0) (old : Contents) (before : Option (List ℕ))
+    (new : Contents) (after : Option (List ℕ)) : Type 0 where
+  pub tried : List Packed
+  pub later : List Packed
+  pub are_all : AreAll (IsHoldout old.records) (tried ++ later)
+  pub whole : Option (List ℕ)
+  pub are_tried : AreTried Answers old.format tried old.records before new.records whole
+  pub part : HasPartOf whole before after
+
+-- what an early end leaves of a board, and of its ledger, which may be behind it: nothing has changed, or holdouts were tried
+abbrev pub LeavesTried : (Packed → Recorded → Type 0) → Contents → Option (List ℕ) → Contents → Option (List ℕ)
+    → Type 0
+LeavesTried Answers old before new after = ChangesNothing old.records before new.records after
+    ⊎ HasTried Answers old before new after

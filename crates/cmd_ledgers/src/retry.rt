@@ -1,5 +1,5 @@
 // `bb retry`: the holdouts of a ledger are tried again.
-ghost use Rattle.std.specs.Prelude.{◌≡◌, ◌⊎◌, IfErr, IfOk, OnErr, OnOk, Result};
+ghost use Rattle.std.specs.Prelude.{◌≡◌, ◌⊎◌, IfErr, IfOk, List, OnErr, OnOk, Option, Result, Some, ℕ};
 ghost use Rattle.cert.specs.Certified.{IsShownBy};
 ghost use Rattle.cert.specs.Claim.{ending_by};
 ghost use Rattle.cert.specs.Kinds.{recorded};
@@ -8,18 +8,22 @@ ghost use Rattle.cmd_options.specs.declared.outcome.Outcome.{Outcome as Outcomes
 ghost use Rattle.cmd_options.specs.declared.ended.Ended.{Ended as Ends};
 ghost use Rattle.cmd_options.specs.Ends.{EndsTold, PrintsNothing};
 ghost use Rattle.files.specs.Paths.{IsKeptBut};
-ghost use Rattle.cmd_ledgers.specs.Retry.{ResolvesOrStays, KeepsInStep, AtSomeTime, ChangesBy, ChangesNothing, MayTear, LeavesRetried, IsTried, AreRetried, TearsLineOf};
+ghost use Rattle.cmd_ledgers.specs.Gathered.{HasGrown, HasPartOf};
+ghost use Rattle.cmd_ledgers.specs.Retry.{KeepsInStep, AtSomeTime, ChangesBy, LeavesRetried, LeavesTried, IsTried, AreRetried, MayTry};
 ghost use Rattle.cmd_ledgers.specs.GoingOn.{LeavesLedger, MayBeCut, kept_part};
 ghost use Rattle.cmd_ledgers.specs.RetryAt.{RetriesAt, RetriesLedger, RetriesWhole};
+ghost use Rattle.ledger.specs.Contents.{Contents};
+ghost use Rattle.wire.specs.Device.{grown};
 
+use crate::gathering::{write_due, write_lines};
 use crate::going_on::{cut_off, load_held, open_held};
-use crate::ledger_changes::append_to;
 use crate::ledger_report::report_board;
 use crate::report_form::AsLines;
 use cert::{Decided, Decider, Judged, Record};
 use cmd_options::{Ended, LedgerFile, Outcome, told};
 use files::{Files, Opened, Progress, ledger_at, lock_ledger};
-use ledger::{Board, Left, Taken};
+use kind_evidence::NoMemory;
+use ledger::{Board, Left};
 use machine_text::Table;
 use std::alloc::Global;
 use std::io::{Read, Write};
@@ -107,8 +111,8 @@ fn retry_loaded<L: LedgerOut, D: Decider, P: Progress, W: Write>(
         (L.text ledger.new) (W.contents answers.old) (W.contents answers.new)) }
     ensures silent { IfErr result (λ e. PrintsNothing e (W.contents answers.old) (W.contents answers.new)) }
     ensures leaves { OnErr result (MayBeCut left.now (L.text ledger.old) (L.text ledger.new)
-        ⊎ LeavesRetried (AtSomeTime D D.answers) board.old (kept_part left.now (L.text ledger.old)) board.new
-        (L.text ledger.new)) }
+        ⊎ ((new : Contents) × LeavesRetried (AtSomeTime D D.answers) board.old
+        (kept_part left.now (L.text ledger.old)) new (L.text ledger.new))) }
 {
     cut_off(left, ledger)?;
     retry_holdouts(alloc, board, decider, ledger, progress)?;
@@ -116,9 +120,10 @@ fn retry_loaded<L: LedgerOut, D: Decider, P: Progress, W: Write>(
 }
 
 /// Asks the decider for each holdout of a board, in the order of their texts. What it answers is taken where
-/// it has a verdict, and its line is appended to the ledger in the ledger's version, so that a ledger that was in step
-/// with the board is so again; else nothing changes. What ends it early, refused memory or a ledger that failed, leaves
-/// what was resolved before. It is told of the board before each of them.
+/// it has a verdict, and its line is gathered for the ledger in the ledger's version; the lines are written once they are a
+/// piece, and at the end, so that a ledger that was in step with the board is so again. Else nothing changes. What ends it
+/// early, refused memory or a ledger that failed, leaves what was resolved before; where the ledger failed, that has a
+/// beginning of its lines. It is told of the board before each of them.
 pub fn retry_holdouts<L: LedgerOut, D: Decider, P: Progress>(
     alloc: Global,
     board: &mut Board,
@@ -129,30 +134,64 @@ pub fn retry_holdouts<L: LedgerOut, D: Decider, P: Progress>(
     ensures kept { KeepsInStep result board.old (L.text ledger.old) board.new (L.text ledger.new) }
     ensures order { OnOk result (AreRetried (AtSomeTime D D.answers) board.old (L.text ledger.old) board.new
         (L.text ledger.new)) }
-    ensures leaves { OnErr result (LeavesRetried (AtSomeTime D D.answers) board.old
-        (L.text ledger.old) board.new (L.text ledger.new)) }
+    ensures leaves { OnErr result (LeavesTried (AtSomeTime D D.answers) board.old (L.text ledger.old) board.new
+        (L.text ledger.new)) }
 {
+    let mut lines = Vec::new(alloc);
     for table in board.holdouts()? {
         progress.tell(board);
-        retry(alloc, board, decider, &table, ledger)?;
+        retry(alloc, board, decider, &table, &mut lines, ledger, progress)?;
     }
-    Ok(())
+    write_lines(ledger, &mut lines)
 }
 
-// Asks the decider for a holdout.
-fn retry<L: LedgerOut, D: Decider>(
+// Asks the decider for a holdout. The lines that are gathered are written where they are due, and before anything that ends
+// it early.
+fn retry<L: LedgerOut, D: Decider, P: Progress>(
     alloc: Global,
     board: &mut Board,
     decider: &mut D,
     t: &Table,
+    lines: &mut Vec<u8>,
     ledger: &mut L,
+    progress: &mut P,
 ) -> Result<(), Ended>
     requires { IsHoldout board.old.records t.now }
-    ensures kept { KeepsInStep result board.old (L.text ledger.old) board.new (L.text ledger.new) }
+    ensures kept { KeepsInStep result board.old (grown (L.text ledger.old) lines.old.items) board.new
+        (grown (L.text ledger.new) lines.new.items) }
     ensures tried { OnOk result (IsTried (AtSomeTime D D.answers) board.old.format t.now board.old.records
-        (L.text ledger.old) board.new.records (L.text ledger.new)) }
-    ensures leaves { OnErr result (MayTear (AtSomeTime D D.answers) board.old.format t.now board.old.records
-        (L.text ledger.old) board.new.records (L.text ledger.new)) }
+        (grown (L.text ledger.old) lines.old.items) board.new.records (grown (L.text ledger.new) lines.new.items)) }
+    ensures grown { OnOk result (HasGrown (L.text ledger.old) (L.text ledger.new)) }
+    ensures leaves { OnErr result ((whole : Option (List ℕ))
+        × MayTry (AtSomeTime D D.answers) board.old.format t.now board.old.records
+        (grown (L.text ledger.old) lines.old.items) board.new.records whole
+        × HasPartOf whole (L.text ledger.old) (L.text ledger.new)) }
+{
+    // The proof needs that it is a board.
+    let _ = board.root();
+    match try_again(alloc, board, decider, t, lines) {
+        Ok(()) => write_due(ledger, lines, progress.is_due()),
+        Err(_) => {
+            write_lines(ledger, lines)?;
+            Err(Ended::NoMemory)
+        }
+    }
+}
+
+// Asks the decider for a holdout, and gathers the line of what it answers where that is taken.
+fn try_again<D: Decider>(
+    alloc: Global,
+    board: &mut Board,
+    decider: &mut D,
+    t: &Table,
+    lines: &mut Vec<u8>,
+) -> Result<(), NoMemory>
+    requires { IsHoldout board.old.records t.now }
+    ensures root { board.new.root ≡ board.old.root }
+    ensures format { board.new.format ≡ board.old.format }
+    ensures tried { OnOk result (IsTried (AtSomeTime D D.answers) board.old.format t.now board.old.records
+        (Some lines.old.items) board.new.records (Some lines.new.items)) }
+    ensures err { OnErr result ((board.new.records ≡ board.old.records) × (lines.new.items ≡ lines.old.items)) }
 {
     let Decided {
         record: made,
@@ -162,53 +201,23 @@ fn retry<L: LedgerOut, D: Decider>(
         table: made.table,
         certificate: made.certificate.lent(),
     };
-    take(alloc, board, &record, judged, ledger)
+    take(board, &record, judged, lines)
 }
 
-// Offers a judged record of a holdout, and appends its line where it is taken.
-fn take<L: LedgerOut>(
-    alloc: Global,
-    board: &mut Board,
-    r: &Record,
-    judged: Judged,
-    ledger: &mut L,
-) -> Result<(), Ended>
-    requires holdout { IsHoldout board.old.records (recorded r.now).table }
-    requires shown { IsShownBy (recorded r.now) judged }
-    ensures kept { KeepsInStep result board.old (L.text ledger.old) board.new (L.text ledger.new) }
-    ensures changes { OnOk result (ChangesBy board.old.format (ending_by (recorded r.now).claim) (recorded r.now)
-        board.old.records (L.text ledger.old) board.new.records (L.text ledger.new)) }
-    ensures leaves { OnErr result (ChangesNothing board.old.records (L.text ledger.old) board.new.records
-        (L.text ledger.new)
-        ⊎ TearsLineOf board.old.format (recorded r.now) board.old.records (L.text ledger.old) board.new.records
-        (L.text ledger.new)) }
-{
-    // The proof needs that it is a board.
-    let _ = board.root();
-    let mut line = Vec::new(alloc);
-    if !gains(board, r, judged, &mut line)? {
-        return Ok(());
-    }
-    append_to(ledger, &line)
-}
-
-// Offers a judged record of a holdout, and answers whether it is taken. Where it is, its line is appended, with its
-// score in version 2.
-fn gains(board: &mut Board, r: &Record, judged: Judged, line: &mut Vec<u8>) -> Result<bool, Ended>
+// Offers a judged record of a holdout, and gathers its line where it is taken, with its score in version 2.
+fn take(board: &mut Board, r: &Record, judged: Judged, lines: &mut Vec<u8>) -> Result<(), NoMemory>
     requires holdout { IsHoldout board.old.records (recorded r.now).table }
     requires shown { IsShownBy (recorded r.now) judged }
     ensures root { board.new.root ≡ board.old.root }
     ensures format { board.new.format ≡ board.old.format }
-    ensures ok { IfOk result (λ gained. ResolvesOrStays board.old.format (recorded r.now) gained board.old.records
-        line.old.items board.new.records line.new.items) }
-    ensures err { OnErr result (board.new.records ≡ board.old.records) }
+    ensures changes { OnOk result (ChangesBy board.old.format (ending_by (recorded r.now).claim) (recorded r.now)
+        board.old.records (Some lines.old.items) board.new.records (Some lines.new.items)) }
+    ensures err { OnErr result ((board.new.records ≡ board.old.records) × (lines.new.items ≡ lines.old.items)) }
 {
-    match board.offer_judged_line(r, judged, line) {
-        Ok(Taken::Settled) => Ok(true),
-        // for an open table alone
-        Ok(Taken::New) => Ok(true),
-        Ok(Taken::Known) => Ok(false),
+    match board.offer_judged_line(r, judged, lines) {
+        // none is new: that is for an open table alone
+        Ok(_) => Ok(()),
         // it is certified, and of a table of the board, so it was memory
-        Err(_) => Err(Ended::NoMemory),
+        Err(_) => Err(NoMemory),
     }
 }

@@ -4,7 +4,7 @@ ghost use Rattle.cert.specs.Asking.{IsShownRecord};
 
 use crate::loop_finder::LoopFinder;
 use crate::named_tables::NamedTables;
-use crate::stages::{COUNTS, DEPTH, FIRST_STAGES, HALTING_STEPS, LARGEST, STAGES, Stage};
+use crate::stages::{COUNTS, DEPTH, FIRST_STAGES, LARGEST, STAGES, Stage};
 use backward::BackwardFinder;
 use cert::{Decided, Finder, OwnedCertificate};
 use far::{FarFinder, OwnedFar};
@@ -15,7 +15,7 @@ use find_words::{WORD_STAGES, WordFinder, WordStage};
 use kind_evidence::NoMemory;
 use loops::{CycleFinder, MAX_TIME, TranslatedFinder};
 use machine_text::Table;
-use run::HaltFinder;
+use run::{HaltFinder, MAX_HALT_STEPS};
 use std::alloc::Global;
 
 /// What the stages ask. One of each kind serves all of its stages.
@@ -46,7 +46,7 @@ impl HardFinder {
             // The stages name their words themselves.
             words: WordFinder::new(alloc, 0),
             automata: FarFinder::new(alloc, LARGEST),
-            halting: HaltFinder::new(alloc, HALTING_STEPS),
+            halting: HaltFinder::new(alloc, MAX_HALT_STEPS),
             cycle: CycleFinder::new(alloc, MAX_TIME),
             translated: TranslatedFinder::new(alloc, MAX_TIME),
             counted: CountedFinder::new(alloc, COUNTS),
@@ -72,7 +72,7 @@ impl HardFinder {
             Stage::Words(stage) => return self.ask_for_words(t, &[stage]),
             Stage::FurtherWords => return self.ask_for_words(t, &WORD_STAGES[2..]),
             Stage::Automata(stage) => self.ask_for_automata(t, stage, budget)?,
-            Stage::Halting => self.halting.find(t, HALTING_STEPS)?,
+            Stage::Halting => self.halting.find(t, MAX_HALT_STEPS)?,
             Stage::Cycles => self.cycle.find(t, MAX_TIME)?,
             Stage::TranslatedCycles => self.translated.find(t, MAX_TIME)?,
             Stage::Counted => self.counted.find(t, budget)?,

@@ -38,9 +38,6 @@ pub(crate) const LARGEST: u64 = 16;
 // Counted automata have so many counts together at most.
 pub(crate) const COUNTS: u64 = 12;
 
-// A run that may halt goes so far: the longest of five states that is known takes 47,176,870 steps.
-pub(crate) const HALTING_STEPS: u64 = 50_000_000;
-
 // Words with one period that is kept once or more, and so many symbols at most.
 macro_rules! words {
     ($period:literal, $times:literal, $length:literal) => {

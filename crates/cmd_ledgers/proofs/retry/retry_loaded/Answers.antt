@@ -4,6 +4,7 @@ use Rattle.ledger.specs.LedgerText.{IsLedgerOf}
 use Rattle.cmd_ledgers.specs.Retry.{AreRetried, AtSomeTime, LeavesRetried}
 use Rattle.cmd_ledgers.proofs.Reports.{if_ok, on_err}
 use Rattle.cmd_ledgers.proofs.Retrying.{cut_reads}
+use Rattle.cmd_ledgers.proofs.Torn.{left_retried}
 use Rattle.cmd_ledgers.proofs.retry.retry_loaded.Goals as goal
 
 pub returns-clause-retries : goal.returns-clause-retries
@@ -31,11 +32,14 @@ pub returns-in_err-retry_holdouts-clause-leaves : goal.returns-in_err-retry_hold
 returns-in_err-retry_holdouts-clause-leaves g c =
     let A = AtSomeTime _ g.D.Decider.answers in
     let p = err_from_is_err_and c.from_residual-in_err-retry_holdouts.result c.from_residual-in_err-retry_holdouts.ensures.1 in
-    rw p.1 (inr (subst (λ (t : Option (List ℕ)). LeavesRetried A c.args.board.now t c.retry_holdouts.new.board (g.L.LedgerOut.text c.retry_holdouts.new.ledger)) c.in_ok-cut_off.ensures.ok
-    c.in_err-retry_holdouts.ensures.leaves))
+    let (b, left) = left_retried A _ _ _ _ c.in_err-retry_holdouts.ensures.leaves in
+    rw p.1 (inr (b, subst (λ (t : Option (List ℕ)). LeavesRetried A c.args.board.now t b (g.L.LedgerOut.text c.retry_holdouts.new.ledger)) c.in_ok-cut_off.ensures.ok left))
 
 pub returns-clause-leaves : goal.returns-clause-leaves
 returns-clause-leaves g c =
     let A = AtSomeTime _ g.D.Decider.answers in
-    on_err c.report_board.result (inr (inr (inr (subst (λ (t : Option (List ℕ)). AreRetried A c.args.board.now t c.retry_holdouts.new.board (g.L.LedgerOut.text c.retry_holdouts.new.ledger)) c.in_ok-cut_off.ensures.ok
-    c.in_ok-retry_holdouts.ensures.order))))
+    on_err c.report_board.result (inr (
+      c.retry_holdouts.new.board,
+      inr (inr (subst (λ (t : Option (List ℕ)). AreRetried A c.args.board.now t c.retry_holdouts.new.board (g.L.LedgerOut.text c.retry_holdouts.new.ledger)) c.in_ok-cut_off.ensures.ok
+          c.in_ok-retry_holdouts.ensures.order)),
+    ))

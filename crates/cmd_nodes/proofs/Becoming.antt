@@ -2,7 +2,7 @@
 use Rattle.std.proofs.Common.{List, [], ◌∷◌, ◌++◌, refl, ap, subst}
 use Rattle.wire.specs.Happening.{Happening}
 use Rattle.wire.specs.Fulfilled.{Answering, Fulfilled, Handed, Reply, Scene, fulfilled}
-use Rattle.cmd_nodes.specs.inside.{Becomes, BecomesBy}
+use Rattle.cmd_nodes.specs.Served.{Becomes, BecomesBy}
 
 -- a node that was fulfilled on by answers has became them
 pub carried_becomes : {N : Type 0} (answers : Answering N) (old : Scene N) (replies : List Reply) (new : Scene N) → Fulfilled answers old replies new → BecomesBy answers old.node replies new.node

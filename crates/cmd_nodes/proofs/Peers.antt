@@ -4,7 +4,7 @@ use Rattle.wire.specs.Fulfilled.{Answering}
 use Rattle.peers.specs.Heard.{all_handed}
 use Rattle.peers.specs.Served.{Exchange, Rounds, Served, unseen}
 use Rattle.peers.proofs.Answering.{rounds_answer}
-use Rattle.cmd_nodes.specs.inside.{Becomes}
+use Rattle.cmd_nodes.specs.Served.{Becomes}
 use Rattle.cmd_nodes.proofs.Becoming.{carried_becomes}
 
 pub rounds_became : {N : Type 0} (answers : Answering N) (old : Served N) (exchanges : List Exchange) (new : Served N) → Rounds answers old exchanges new

@@ -1,5 +1,4 @@
 -- A coordinator's answers keep the root of its board.
-use Rattle.ledger.specs.Offers.{KeepsTree}
 use Rattle.std.proofs.Common.{◌≡◌, ℕ, Bool, true, false, List, [], ◌∷◌, Option, Some, None, Result, Ok, Err, refl, ◌∙◌, ap, sym, subst, ◌==◌}
 use Rattle.machine_text.specs.Packed.{Packed}
 use Rattle.wire.specs.Fulfilled.{Reply}
@@ -10,7 +9,11 @@ use Rattle.wire.specs.declared.message_fault.MsgFault.{MsgFault}
 use Rattle.wire.specs.declared.node.Out.{Out}
 use Rattle.leases.specs.Leases.{Leased}
 use Rattle.lease_core.specs.CoordinatorRules.{Coordinating, DoneRow, FrameRow, HeldGives, MessageRow, On, Row}
-use Rattle.cmd_nodes.specs.inside.{Becomes, BecomesBy, IsOfRoot}
+use Rattle.cmd_nodes.specs.Served.{Becomes, BecomesBy}
+
+-- the board of a coordinator has this root
+abbrev pub IsOfRoot : Packed → Coordinating → Type 0
+IsOfRoot root c = (held : Leased) × (c.held ≡ Some held) × (held.board.root ≡ root)
 
 root_of : Leased → Packed
 root_of l = l.board.root
@@ -52,7 +55,7 @@ held_root era (Some old) (Some new) e out root gives has =
 held_root era (Some old) None e out root gives has = absurd gives
 held_root era None new e out root gives has = absurd gives
 
-pub on_keeps : (old new : Coordinating) (e : Happening) (out : Out) → On old e (Ok out) new → KeepsRoot old new
+on_keeps : (old new : Coordinating) (e : Happening) (out : Out) → On old e (Ok out) new → KeepsRoot old new
 unfolding root_of
 on_keeps old new e out on root has = held_root old.era old.held new.held e out root on.3 has
 

@@ -15,7 +15,8 @@ use Rattle.cmd_options.specs.declared.outcome.Outcome.{Outcome}
 use Rattle.cmd_options.specs.declared.ended.Ended.{Ended}
 use Rattle.cmd_options.specs.declared.ended.Ended.TheVariants.{Stream}
 use Rattle.cmd_nodes.specs.Settled.{CoordinatesTree}
-use Rattle.cmd_nodes.specs.inside.{IsOfRoot, ReportsBoard}
+use Rattle.cmd_nodes.specs.inside.{ReportsBoard}
+use Rattle.cmd_nodes.proofs.Roots.{IsOfRoot}
 
 module _ (IsText : FormText) (n : ℕ) (IsKept : Contents → Type 0) (held new_held : Option (List ℕ)) where
   -- the report of a coordinator's board

@@ -3,5 +3,6 @@ pub mod Losses
 pub mod Rounds
 pub mod Moving
 pub mod Kept
+pub mod Served
 pub mod Settled
 pub mod inside

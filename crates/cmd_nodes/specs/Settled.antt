@@ -15,6 +15,9 @@ use Rattle.files.specs.declared.opened.Opened.{Opened}
 use Rattle.cmd_options.specs.Ends.{PrintsNothing}
 use Rattle.cmd_options.specs.declared.ended.Ended.{Ended}
 use Rattle.cmd_options.specs.declared.outcome.Outcome.{Outcome}
+use Rattle.lease_core.specs.CoordinatorRules.{Coordinating}
+use Rattle.lease_core.specs.Starts.{started}
+use Rattle.cmd_nodes.specs.Served.{IsBegunFrom, ComesToHold, NoneOpen}
 
 -- what a ledger holds is what was opened of it, to its last byte
 pub record IsOfLedger (has : Option (List ℕ)) (len : ℕ) (text : Option (List ℕ)) : Type 0 where
@@ -30,6 +33,20 @@ KeepsLedger remaining (Ok opened) old new board = IsOfLedger (remaining opened.r
     → IfSome new (IsLedgerOf board)
 KeepsLedger remaining (Err fault) old new board = Unit {0}
 
+-- the board is that of a coordinator of the tree of n states which began with what was opened of its ledger and answered in
+-- turn, and its ledger is kept
+pub record IsServedBoard {F : Type 0} (n era : ℕ) (remaining : F → Option (List ℕ)) (held : Result (Opened F) Error)
+    (old new : Option (List ℕ)) (board : Contents) : Type 0 where
+  pub first : Coordinating
+  pub begins : IsBegunFrom n era remaining held first
+  pub comes : ComesToHold first board
+  pub kept : KeepsLedger remaining held old new board
+
+-- and no table of it is open
+abbrev pub IsSettledBoard : {F : Type 0} → ℕ → ℕ → (F → Option (List ℕ)) → Result (Opened F) Error → Option (List ℕ)
+    → Option (List ℕ) → Contents → Type 0
+IsSettledBoard n era remaining held old new board = IsServedBoard n era remaining held old new board × NoneOpen board
+
 -- what a coordinator holds in the end: a board of the tree of n states, whose ledger is kept; the outcome is by how it
 -- stands
 pub record CoordinatesTree (n : ℕ) (IsKept : Contents → Type 0) (o : Outcome) : Type 0 where
@@ -41,14 +58,17 @@ pub record CoordinatesTree (n : ℕ) (IsKept : Contents → Type 0) (o : Outcome
   pub stands : IsStatus board.root board.records status
   pub ends : o ≡ outcome_by status Nothing
 
--- from the ledger that a reader has in its first bytes, of whatever root, a board was loaded, and the report of a board of the
--- same root is written, whose ledger it is in the end where it was all that the ledger held; the outcome is by how it stands
-pub record ReportsPart (IsText : FormText) (has : Option (List ℕ)) (limit : ℕ)
+-- from the ledger that a reader has in its first bytes, of whatever root, a board was loaded; a coordinator that began with it
+-- answered in turn, until no table was open; and the report of its board, of the same root, is written, whose ledger it is in
+-- the end where it was all that the ledger held; the outcome is by how it stands
+pub record ReportsPart (IsText : FormText) (era : ℕ) (has : Option (List ℕ)) (limit : ℕ)
     (before after said new_said : Option (List ℕ)) (o : Outcome) : Type 0 where
   pub loaded : Contents
   pub left : Left
   pub loads : IsLoadedFrom has limit loaded left
   pub board : Contents
+  pub comes : ComesToHold (started era loaded) board
+  pub none_open : NoneOpen board
   pub reports : ReportsTree IsText loaded.root (λ b. IsOfLedger has limit before → IfSome after (IsLedgerOf b)) said
       new_said board
   pub status : Status
@@ -56,8 +76,8 @@ pub record ReportsPart (IsText : FormText) (has : Option (List ℕ)) (limit : �
   pub ends : o ≡ outcome_by status Nothing
 
 -- what ends that early ends it before anything is written, unless a stream fails
-abbrev pub SettlesPart : FormText → Option (List ℕ) → ℕ → Option (List ℕ) → Option (List ℕ) → Option (List ℕ)
+abbrev pub SettlesPart : FormText → ℕ → Option (List ℕ) → ℕ → Option (List ℕ) → Option (List ℕ) → Option (List ℕ)
     → Option (List ℕ) → Result Outcome Ended → Type 0
-SettlesPart IsText has limit before after said new_said (Ok o) =
-    ReportsPart IsText has limit before after said new_said o
-SettlesPart IsText has limit before after said new_said (Err e) = PrintsNothing e said new_said
+SettlesPart IsText era has limit before after said new_said (Ok o) =
+    ReportsPart IsText era has limit before after said new_said o
+SettlesPart IsText era has limit before after said new_said (Err e) = PrintsNothing e said new_said

@@ -1,5 +1,5 @@
 -- For the code: a coordinator that is served, and the report of its board.
-use Rattle.std.specs.Prelude.{◌≡◌, ℕ, List, [], ◌∷◌, Option, Some, Result, Ok, Err, IfSome}
+use Rattle.std.specs.Prelude.{◌≡◌, ℕ, List, Option, Some, Result, Ok, Err, IfSome}
 use Rattle.std.specs.Io.KnownBytes.{Appends}
 use Rattle.std.specs.declared.io.Error.{Error}
 use Rattle.machine_text.specs.Packed.{Packed}
@@ -8,26 +8,17 @@ use Rattle.ledger.specs.Tally.{IsStatus}
 use Rattle.ledger.specs.declared.left.Left.{Left}
 use Rattle.ledger.specs.declared.left.Left.TheVariants.{Nothing}
 use Rattle.ledger.specs.declared.status.Status.{Status}
-use Rattle.wire.specs.Fulfilled.{Answering, Reply}
 use Rattle.leases.specs.Leases.{Leased}
-use Rattle.lease_core.specs.CoordinatorRules.{Coordinating}
-use Rattle.lease_core.specs.Starts.{InStep}
+use Rattle.lease_core.specs.CoordinatorFinals.{board_of}
+use Rattle.lease_core.specs.CoordinatorRules.{Coordinating, On}
+use Rattle.lease_core.specs.Starts.{InStep, started}
 use Rattle.files.specs.declared.opened.Opened.{Opened}
 use Rattle.cmd_ledgers.specs.LedgerReport.{outcome_by}
 use Rattle.cmd_ledgers.specs.Reading.{IsLoadedFrom}
 use Rattle.cmd_options.specs.declared.outcome.Outcome.{Outcome}
 use Rattle.cmd_ledgers.specs.Settled.{FormText}
+use Rattle.cmd_nodes.specs.Served.{Becomes, NoneOpen}
 use Rattle.cmd_nodes.specs.Settled.{IsOfLedger}
-
--- a node gave these answers in turn, and became so
-abbrev pub BecomesBy : {N : Type 0} → Answering N → N → List Reply → N → Type 0
-BecomesBy answers old [] new = new ≡ old
-BecomesBy {N} answers old (reply ∷ replies) new = (node : N) × answers old reply.to (Ok reply.out) node
-    × BecomesBy answers node replies new
-
--- it gave some answers, and became so
-abbrev pub Becomes : {N : Type 0} → Answering N → N → N → Type 0
-Becomes answers old new = (replies : List Reply) × BecomesBy answers old replies new
 
 -- the board of a coordinator has this root
 abbrev pub IsOfRoot : Packed → Coordinating → Type 0
@@ -37,9 +28,9 @@ IsOfRoot root c = (held : Leased) × (c.held ≡ Some held) × (held.board.root 
 abbrev pub KeepsStep : {N : Type 0} → (N → List ℕ → Type 0) → N → N → Option (List ℕ) → Option (List ℕ) → Type 0
 KeepsStep in_step old new before after = IfSome before (in_step old) → IfSome after (in_step new)
 
--- a coordinator keeps the root of its board, and its ledger in step
+-- a coordinator answered in turn, and its ledger is kept in step
 pub record IsServed (old new : Coordinating) (before after : Option (List ℕ)) : Type 0 where
-  pub root : (root : Packed) → IsOfRoot root old → IsOfRoot root new
+  pub became : Becomes On old new
   pub step : KeepsStep (λ c text. InStep c text) old new before after
 
 -- a ledger that held what was opened of it is in step with the coordinator that began with that
@@ -49,14 +40,18 @@ StartsInStep remaining (Ok opened) old new c = IsOfLedger (remaining opened.read
     → IfSome new (InStep c)
 StartsInStep remaining (Err fault) old new c = Unit {0}
 
--- a coordinator began with the board that was loaded of the ledger that a reader has in its first bytes: it has its root, and
--- its ledger is in step with it, where that held no more
-pub record StartsPart (has : Option (List ℕ)) (limit : ℕ) (before after : Option (List ℕ))
+-- no table of the board that a coordinator holds is open
+abbrev pub IsSettled : Coordinating → Type 0
+IsSettled c = IfSome (board_of c.held) NoneOpen
+
+-- a coordinator began with the board that was loaded of the ledger that a reader has in its first bytes, and its ledger is in
+-- step with it, where that held no more
+pub record StartsPart (era : ℕ) (has : Option (List ℕ)) (limit : ℕ) (before after : Option (List ℕ))
     (c : Coordinating) : Type 0 where
   pub loaded : Contents
   pub left : Left
   pub loads : IsLoadedFrom has limit loaded left
-  pub root : IsOfRoot loaded.root c
+  pub is : c ≡ started era loaded
   pub step : IsOfLedger has limit before → IfSome after (InStep c)
 
 -- the report of a board is written in a form, and the outcome is by how the board stands

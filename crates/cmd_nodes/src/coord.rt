@@ -1,7 +1,6 @@
 // `bb coord`: a coordinator over two streams and a ledger.
 ghost use Rattle.std.specs.Prelude.{◌≡◌, ◌≤◌, None, IfOk, IfSome, OnOk, Result};
 ghost use Rattle.machine_text.specs.Limits.{state_limit};
-ghost use Rattle.machine_text.specs.Packed.{empty_table};
 ghost use Rattle.wire.specs.Fulfilled.{kept_text};
 ghost use Rattle.wire.specs.declared.node.Out.{Out as Answer};
 ghost use Rattle.lease_core.specs.Starts.{InStep};
@@ -12,8 +11,9 @@ ghost use Rattle.cmd_ledgers.specs.LedgerReport.{outcome_by};
 ghost use Rattle.cmd_options.specs.Ends.{EndsTold};
 ghost use Rattle.cmd_options.specs.declared.ended.Ended.{Ended as Ends};
 ghost use Rattle.cmd_options.specs.declared.outcome.Outcome.{Outcome as Outcomes};
-ghost use Rattle.cmd_nodes.specs.Settled.{CoordinatesTree, IsOfLedger, KeepsLedger};
-ghost use Rattle.cmd_nodes.specs.inside.{Becomes, IsOfRoot, KeepsStep, StartsInStep, StartsPart};
+ghost use Rattle.cmd_nodes.specs.Served.{Becomes, IsBegunFrom, IsBegunWith};
+ghost use Rattle.cmd_nodes.specs.Settled.{CoordinatesTree, IsOfLedger, IsServedBoard};
+ghost use Rattle.cmd_nodes.specs.inside.{KeepsStep, StartsInStep, StartsPart};
 
 use crate::faults::{by_start, by_turn};
 use crate::held_ledger::HeldLedger;
@@ -42,7 +42,7 @@ pub fn cmd_coord<F: Read + Drop, L: LedgerOut, R: Read, W: Write, E: Write>(
     requires { (1 ≤ beginning.states) × (beginning.states ≤ state_limit) }
     ensures { (ended : Result Outcomes Ends)
         × IfOk ended (CoordinatesTree beginning.states
-        (KeepsLedger F.remaining held (L.text ledger.old) (L.text ledger.new)))
+        (IsServedBoard beginning.states beginning.era F.remaining held (L.text ledger.old) (L.text ledger.new)))
         × EndsTold ended (E.contents faults.old) (E.contents faults.new) result }
 {
     told(
@@ -61,8 +61,8 @@ fn coordinate<F: Read + Drop, L: LedgerOut, R: Read, W: Write>(
     answers: &mut W,
 ) -> Result<Outcome, Ended>
     requires { (1 ≤ beginning.states) × (beginning.states ≤ state_limit) }
-    ensures { IfOk result
-        (CoordinatesTree beginning.states (KeepsLedger F.remaining held (L.text ledger.old) (L.text ledger.new))) }
+    ensures { IfOk result (CoordinatesTree beginning.states
+        (IsServedBoard beginning.states beginning.era F.remaining held (L.text ledger.old) (L.text ledger.new))) }
 {
     let mut node = start_coordinator(alloc, beginning, held, ledger)?;
     serve(alloc, &mut node, ledger, input, answers)?;
@@ -77,7 +77,7 @@ pub(crate) fn start_coordinator<F: Read + Drop, L: LedgerOut>(
     ledger: &mut L,
 ) -> Result<Coordinator, Ended>
     requires { (1 ≤ beginning.states) × (beginning.states ≤ state_limit) }
-    ensures root { IfOk result (IsOfRoot (empty_table beginning.states)) }
+    ensures begins { IfOk result (IsBegunFrom beginning.states beginning.era F.remaining held) }
     ensures step { IfOk result (StartsInStep F.remaining held (L.text ledger.old) (L.text ledger.new)) }
 {
     match held {
@@ -94,7 +94,8 @@ fn start<F: Read + Drop, L: LedgerOut>(
     ledger: &mut L,
 ) -> Result<Coordinator, Ended>
     requires { (1 ≤ beginning.states) × (beginning.states ≤ state_limit) }
-    ensures root { IfOk result (IsOfRoot (empty_table beginning.states)) }
+    ensures begins { IfOk result
+        (IsBegunWith beginning.states beginning.era (F.remaining opened.reader) opened.length) }
     ensures step { IfOk result (λ node. IsOfLedger (F.remaining opened.reader) opened.length (L.text ledger.old)
         → IfSome (L.text ledger.new) (InStep node)) }
 {
@@ -120,7 +121,7 @@ pub(crate) fn start_part<F: Read + Drop, L: LedgerOut>(
     ledger: &mut L,
 ) -> Result<Coordinator, Ended>
     ensures { IfOk result
-        (StartsPart (F.remaining held.reader) held.length (L.text ledger.old) (L.text ledger.new)) }
+        (StartsPart era (F.remaining held.reader) held.length (L.text ledger.old) (L.text ledger.new)) }
 {
     let (board, left) = load_held(alloc, held)?;
     cut_off(&left, ledger)?;

@@ -3,13 +3,14 @@ ghost use Rattle.std.specs.Prelude.{◌≤◌, IfOk, OnOk};
 ghost use Rattle.machine_text.specs.Limits.{state_limit};
 ghost use Rattle.machine_text.specs.Packed.{empty_table};
 ghost use Rattle.cmd_ledgers.specs.Settled.{SettlesTree};
-ghost use Rattle.cmd_nodes.specs.Settled.{KeepsLedger, SettlesPart};
-ghost use Rattle.cmd_nodes.specs.inside.{Becomes, IsServed, KeepsStep};
+ghost use Rattle.cmd_nodes.specs.Served.{Becomes};
+ghost use Rattle.cmd_nodes.specs.Settled.{IsSettledBoard, SettlesPart};
+ghost use Rattle.cmd_nodes.specs.inside.{IsServed, IsSettled, KeepsStep};
 
 use crate::coord::{start_coordinator, start_part};
 use crate::faults::by_turn;
 use crate::reporting::report_board;
-use crate::rounds::has_open;
+use crate::rounds::is_settled;
 use cmd_ledgers::ReportForm;
 use cmd_options::{Beginning, Ended, Outcome};
 use files::{Opened, Progress};
@@ -58,8 +59,8 @@ pub fn serve_tree<
 ) -> Result<Outcome, Ended>
     requires { (1 ≤ serving.beginning.states) × (serving.beginning.states ≤ state_limit) }
     ensures { SettlesTree (P.is_text serving.entry.form.now) serving.entry.beginning.states
-        (KeepsLedger F.remaining held (L.text ledger.old) (L.text ledger.new))
-        (W.contents answers.old) (W.contents answers.new) result }
+        (IsSettledBoard serving.entry.beginning.states serving.entry.beginning.era F.remaining held (L.text ledger.old)
+        (L.text ledger.new)) (W.contents answers.old) (W.contents answers.new) result }
 {
     let node = start_coordinator(alloc, serving.beginning, held, ledger)?;
     let Serving { form, conduct, .. } = serving;
@@ -98,7 +99,7 @@ pub fn serve_part<
     progress: &mut G,
     answers: &mut W,
 ) -> Result<Outcome, Ended>
-    ensures { SettlesPart (P.is_text serving.entry.form.now) (F.remaining held.reader) held.length
+    ensures { SettlesPart (P.is_text serving.entry.form.now) serving.entry.era (F.remaining held.reader) held.length
         (L.text ledger.old) (L.text ledger.new) (W.contents answers.old) (W.contents answers.new) result }
 {
     let node = start_part(alloc, serving.era, held, ledger)?;
@@ -117,14 +118,15 @@ fn served<L: LedgerOut, K: Connections, G: Progress>(
     connections: &mut K,
     progress: &mut G,
 ) -> Result<Guarded<Coordinator>, Ended>
-    ensures { IfOk result (λ guarded. IsServed node guarded.node (L.text ledger.old) (L.text ledger.new)) }
+    ensures served { IfOk result (λ guarded. IsServed node guarded.node (L.text ledger.old) (L.text ledger.new)) }
+    ensures settled { IfOk result (λ guarded. IsSettled guarded.node) }
 {
     let mut guarded = Guarded::new(alloc, node, conduct);
     serve_workers(alloc, &mut guarded, ledger, connections, progress)?;
     Ok(guarded)
 }
 
-// Takes what comes, until the tree is settled and nobody is left to be told.
+// Takes what comes, until the tree is settled and nobody is left to be told. `Stream` where that doesn't end.
 fn serve_workers<L: LedgerOut, K: Connections, G: Progress>(
     alloc: Global,
     node: &mut Guarded<Coordinator>,
@@ -132,14 +134,15 @@ fn serve_workers<L: LedgerOut, K: Connections, G: Progress>(
     connections: &mut K,
     progress: &mut G,
 ) -> Result<(), Ended>
-    ensures { OnOk result (IsServed node.old.node node.new.node (L.text ledger.old) (L.text ledger.new)) }
+    ensures served { OnOk result (IsServed node.old.node node.new.node (L.text ledger.old) (L.text ledger.new)) }
+    ensures settled { OnOk result (IsSettled node.new.node) }
 {
     let mut piece = vec![in alloc; 0; PIECE_BYTES]?;
     let mut peers = Peers::new(alloc);
     let mut settled = None;
     for _ in 0..u64::MAX {
-        if !has_open(node.node()) && (peers.count() == 0 || is_over(node, &mut settled)) {
-            break;
+        if is_settled(node.node()) && (peers.count() == 0 || is_over(node, &mut settled)) {
+            return Ok(());
         }
         serve_once(connections, &mut piece, &mut peers, node, ledger)?;
         progress.count_workers(peers.count());
@@ -147,7 +150,7 @@ fn serve_workers<L: LedgerOut, K: Connections, G: Progress>(
             progress.tell(board);
         }
     }
-    Ok(())
+    Err(Ended::Stream)
 }
 
 // Takes what comes next to a coordinator.

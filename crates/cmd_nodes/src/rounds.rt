@@ -1,6 +1,7 @@
 // Rounds of a coordinator and workers in one process.
-ghost use Rattle.std.specs.Prelude.{OnOk};
-ghost use Rattle.cmd_nodes.specs.inside.{IsServed};
+ghost use Rattle.std.specs.Prelude.{◌≡◌, OnOk, true};
+ghost use Rattle.cmd_nodes.specs.Served.{NoneOpen};
+ghost use Rattle.cmd_nodes.specs.inside.{IsServed, IsSettled};
 
 use crate::couriers::Courier;
 use crate::faults::by_turn;
@@ -9,7 +10,7 @@ use cmd_ledgers::keep_answer;
 use cmd_options::Ended;
 use files::Progress;
 use lease_core::Coordinator;
-use ledger::Status;
+use ledger::{Board, Status};
 use wire::{Event, LedgerOut, Node, TurnFault};
 
 // Runs rounds, numbered from 1, until no table is open or so many were run. A round is a tick of the
@@ -23,11 +24,11 @@ pub(crate) fn run_rounds<N: Node, Y: Courier, L: LedgerOut, P: Progress>(
 ) -> Result<(), Ended>
     ensures { OnOk result (IsServed coordinator.old coordinator.new (L.text ledger.old) (L.text ledger.new)) }
 {
-    for round in 1..=rounds {
-        if !has_open(coordinator) {
-            break;
+    for before in 0..rounds {
+        if is_settled(coordinator) {
+            return Ok(());
         }
-        run_round(coordinator, ledger, stations, round)?;
+        run_round(coordinator, ledger, stations, before + 1)?;
         if let Some(board) = coordinator.board() {
             progress.tell(board);
         }
@@ -64,9 +65,21 @@ fn tick<L: LedgerOut>(
     }
 }
 
-pub(crate) fn has_open(coordinator: &Coordinator) -> bool {
+// Whether no table of its board is open.
+pub(crate) fn is_settled(coordinator: &Coordinator) -> bool
+    ensures { result ≡ true → IsSettled coordinator.now }
+{
     match coordinator.board() {
-        Some(board) => matches!(board.status(), Status::Working { .. }),
-        None => false,
+        Some(board) => has_none_open(board),
+        None => true,
+    }
+}
+
+fn has_none_open(board: &Board) -> bool
+    ensures { result ≡ true → NoneOpen board.now }
+{
+    match board.status() {
+        Status::Working { .. } => false,
+        Status::Holdouts { .. } | Status::Complete { .. } => true,
     }
 }

@@ -1,6 +1,7 @@
 // A worker in the same process as its coordinator.
 ghost use Rattle.std.specs.Prelude.{OnOk};
-ghost use Rattle.cmd_nodes.specs.inside.{Becomes, IsServed, KeepsStep};
+ghost use Rattle.cmd_nodes.specs.Served.{Becomes};
+ghost use Rattle.cmd_nodes.specs.inside.{IsServed, KeepsStep};
 
 use crate::couriers::Courier;
 use crate::faults::in_memory;

@@ -1,4 +1,5 @@
-use Rattle.cmd_nodes.specs.inside.{Becomes, KeepsStep}
+use Rattle.cmd_nodes.specs.Served.{Becomes}
+use Rattle.cmd_nodes.specs.inside.{KeepsStep}
 use Rattle.cmd_nodes.proofs.coord.take_turns.Given as goal
 
 abbrev pub invariant-loop : goal.invariant-loop

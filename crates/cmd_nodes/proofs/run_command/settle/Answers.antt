@@ -1,15 +1,20 @@
-use Rattle.machine_text.specs.Packed.{empty_table}
-use Rattle.cmd_nodes.specs.Settled.{KeepsLedger}
+use Rattle.cmd_nodes.specs.Settled.{IsServedBoard}
 use Rattle.cmd_nodes.proofs.Settling.{reported}
-use Rattle.cmd_nodes.proofs.Steps.{ledger_kept}
+use Rattle.cmd_nodes.proofs.Steps.{served_board, served_root}
 use Rattle.cmd_nodes.proofs.run_command.settle.Goals as goal
 
 pub returns : goal.returns
 returns g c =
     let node = c.run_workers.new.node in
-    reported (g.P.ReportForm.is_text c.args.run.form.now) c.args.run.settling.now.states
-    (KeepsLedger g.F.Read.remaining c.args.held (g.L.LedgerOut.text c.args.ledger.now) (g.L.LedgerOut.text c.run_workers.new.ledger))
+    let n = c.args.run.settling.now.states in
+    let old = g.L.LedgerOut.text c.args.ledger.now in
+    let then = g.L.LedgerOut.text c.start_coordinator.new.ledger in
+    let new = g.L.LedgerOut.text c.run_workers.new.ledger in
+    let begins = c.in_ok-node.ensures.begins in
+    let starts = c.in_ok-node.ensures.step in
+    let served = c.in_ok-run_workers.ensures in
+    reported (g.P.ReportForm.is_text c.args.run.form.now) n (IsServedBoard n 1 g.F.Read.remaining c.args.held old new)
     (g.W.Write.contents c.args.answers.now) (g.W.Write.contents c.report_board.new.answers) node c.report_board.result c.requires.0 c.requires.1
-    (c.in_ok-run_workers.ensures.root (empty_table c.args.run.settling.now.states) c.in_ok-node.ensures.root)
-    (λ leased is. ledger_kept g.F.Read.remaining c.args.held _ _ _ c.in_ok-node.node node leased is c.in_ok-node.ensures.step c.in_ok-run_workers.ensures.step)
+    (served_root n 1 g.F.Read.remaining c.args.held old then new c.in_ok-node.node node begins starts served)
+    (served_board n 1 g.F.Read.remaining c.args.held old then new c.in_ok-node.node node begins starts served)
     c.report_board.ensures.ok c.report_board.ensures.err

@@ -16,7 +16,7 @@ use Rattle.peers.specs.declared.line_kind.LineKind.TheVariants.{Ask as AskLine, 
 use Rattle.peers.specs.declared.passage.Passage.{Passage}
 use Rattle.peers.specs.declared.passage.Passage.TheVariants.{Whole, Done, Ask, GiveBack, Later, Holdout, Nothing}
 use Rattle.peers.specs.Limits.{most_wait_seconds, peer_lease_limit}
-use Rattle.peers.specs.Guard.{AskerState, GuardState, IsGrantedBy, IsLetThrough, IsReturn, IsShutOut, HandsLine, TellsPeer, guard_after, ask_passage_by, asker_at, brought, by_note, forgotten, free_place, gone_back, granted, handed_line, with_answer, idle_passage, idle_passage_by, is_holdout, is_idle_at, is_of, is_over, is_returned_by, is_waiting, kind_of, kind_passage, known_passage, new_passage, or_none, passage, passage_by, put_at, remembered, returning, told_frames, without_asker}
+use Rattle.peers.specs.Guard.{AskerState, GuardState, IsGrantedBy, IsLetThrough, IsReturn, IsShutOut, HandsLine, TellsPeer, guard_after, ask_passage_by, asker_at, brought, by_note, forgotten, free_place, gone_back, granted, handed_line, with_answer, idle_passage, idle_passage_by, is_holdout, is_idle_at, is_of, is_over, is_returned_by, is_spent, is_waiting, kind_of, kind_passage, known_passage, new_passage, or_none, other_passage, passage, passage_by, put_at, remembered, returning, told_frames, without_asker}
 
 -- 1. What the node is handed
 
@@ -163,21 +163,21 @@ position_within p xs k is = by_test (nat_lt (position_or_len p xs) (length xs)) 
     by_test true below e = subst (λ n. n < length xs) (some_same _ _ e) (grind (arith, nat_tests))
     by_test false past e = absurd (cc)
 
-few_new : (moment id : ℕ) (guard : GuardState) (place : Option ℕ) → free_place moment guard ≡ place → FewAfter guard (new_passage id place)
-few_new moment id guard None is = tt
-few_new moment id guard (Some place) is = by_test (nat_lt (length guard.askers) peer_lease_limit) refl is
+few_other : (moment id : ℕ) (guard : GuardState) (place : Option ℕ) → free_place moment guard ≡ place → FewAfter guard (other_passage id place)
+few_other moment id guard None is = tt
+few_other moment id guard (Some place) is = by_test (nat_lt (length guard.askers) peer_lease_limit) refl is
   where
     by_test : (b : Bool) → nat_lt (length guard.askers) peer_lease_limit ≡ b
         → cond b (Some (length guard.askers)) (position (is_over moment guard.renewed) guard.askers) ≡ Some place → FewAfter guard (Ask id place 1)
     by_test true below e = inr (grind (arith, nat_tests))
     by_test false past e = inl (position_within (is_over moment guard.renewed) guard.askers place e)
 
-few_idle : (moment place : ℕ) (guard : GuardState) (asker : AskerState) (frame : Option (List ℕ)) → place < length guard.askers
-    → FewAfter guard (idle_passage_by frame moment place asker)
-few_idle moment place guard asker (Some frame) within = tt
-few_idle moment place guard asker None within = by_test (is_waiting moment asker)
+few_idle : (moment id place : ℕ) (guard : GuardState) (asker : AskerState) (frame : Option (List ℕ)) → place < length guard.askers
+    → FewAfter guard (idle_passage_by frame moment id place asker)
+few_idle moment id place guard asker (Some frame) within = tt
+few_idle moment id place guard asker None within = by_test (is_waiting moment asker)
   where
-    by_test : (b : Bool) → FewAfter guard (cond b Later (Ask asker.id place (min (asker.wait * 2) most_wait_seconds)))
+    by_test : (b : Bool) → FewAfter guard (cond b Later (Ask id place (min (asker.wait * 2) most_wait_seconds)))
     by_test true = tt
     by_test false = inl within
 
@@ -185,15 +185,21 @@ few_known : (moment id place : ℕ) (guard : GuardState) (asker : AskerState) �
     → FewAfter guard (known_passage moment guard id place asker)
 few_known moment id place guard asker within = by_test (is_idle_at guard.records asker)
   where
-    by_test : (b : Bool) → FewAfter guard (cond b (idle_passage moment place asker) (Ask id place 1))
-    by_test true = few_idle moment place guard asker asker.returning within
+    by_test : (b : Bool) → FewAfter guard (cond b (idle_passage moment id place asker) (Ask id place 1))
+    by_test true = few_idle moment id place guard asker asker.returning within
     by_test false = inl within
+
+few_new : (moment id : ℕ) (guard : GuardState) (place : Option ℕ) → position (is_spent guard.records) guard.askers ≡ place
+    → FewAfter guard (new_passage moment guard id place)
+few_new moment id guard (Some place) is =
+    few_idle moment id place guard (asker_at guard place) (asker_at guard place).returning (position_within (is_spent guard.records) guard.askers place is)
+few_new moment id guard None is = few_other moment id guard (free_place moment guard) refl
 
 few_asked : (moment id : ℕ) (guard : GuardState) (place : Option ℕ) → position (is_of id) guard.askers ≡ place
     → FewAfter guard (ask_passage_by moment guard id place)
 few_asked moment id guard (Some place) is =
     few_known moment id place guard (asker_at guard place) (position_within (is_of id) guard.askers place is)
-few_asked moment id guard None is = few_new moment id guard (free_place moment guard) refl
+few_asked moment id guard None is = few_new moment id guard (position (is_spent guard.records) guard.askers) refl
 
 few_kind : (moment : ℕ) (guard : GuardState) (kind : LineKind) → FewAfter guard (kind_passage moment guard kind)
 few_kind moment guard (AskLine id) = few_asked moment id guard (position (is_of id) guard.askers) refl

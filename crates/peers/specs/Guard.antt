@@ -115,26 +115,40 @@ abbrev pub is_holdout : List ℕ → Bool
 is_holdout line = if ends_with nat_eq line (codes " U") then claims_nothing (message_of line) else false
 
 -- an `ASK` whose lease brought no new record: that is given back; and then the id waits, the longer the more often
-abbrev pub idle_passage_by : Option (List ℕ) → ℕ → ℕ → AskerState → Passage
-idle_passage_by (Some frame) moment place asker = GiveBack place
-idle_passage_by None moment place asker =
-    if is_waiting moment asker then Later else Ask asker.id place (min (asker.wait * 2) most_wait_seconds)
+abbrev pub idle_passage_by : Option (List ℕ) → ℕ → ℕ → ℕ → AskerState → Passage
+idle_passage_by (Some frame) moment id place asker = GiveBack place
+idle_passage_by None moment id place asker =
+    if is_waiting moment asker then Later else Ask id place (min (asker.wait * 2) most_wait_seconds)
 
-abbrev pub idle_passage : ℕ → ℕ → AskerState → Passage
-idle_passage moment place asker = idle_passage_by asker.returning moment place asker
+abbrev pub idle_passage : ℕ → ℕ → ℕ → AskerState → Passage
+idle_passage moment id place asker = idle_passage_by asker.returning moment id place asker
 
 abbrev pub known_passage : ℕ → GuardState → ℕ → ℕ → AskerState → Passage
 known_passage moment guard id place asker =
-    if is_idle_at guard.records asker then idle_passage moment place asker else Ask id place 1
+    if is_idle_at guard.records asker then idle_passage moment id place asker else Ask id place 1
 
--- an `ASK` of another id is handed over where one more may have a lease
-abbrev pub new_passage : ℕ → Option ℕ → Passage
-new_passage id (Some place) = Ask id place 1
-new_passage id None = Later
+-- one that gave its lease back, and the peer has brought no new record since that was granted
+abbrev pub is_spent_by : Option (List ℕ) → ℕ → AskerState → Bool
+is_spent_by (Some frame) records asker = false
+is_spent_by None records asker = is_idle_at records asker
+
+abbrev pub is_spent : ℕ → AskerState → Bool
+is_spent records asker = is_spent_by asker.returning records asker
+
+-- an `ASK` of another id waits as the first such one does, and takes its place: who brings nothing by one id doesn't get
+-- more by others. Where there is none it is handed over, if one more may have a lease
+abbrev pub other_passage : ℕ → Option ℕ → Passage
+other_passage id (Some place) = Ask id place 1
+other_passage id None = Later
+
+abbrev pub new_passage : ℕ → GuardState → ℕ → Option ℕ → Passage
+new_passage moment guard id (Some place) = idle_passage moment id place (asker_at guard place)
+new_passage moment guard id None = other_passage id (free_place moment guard)
 
 abbrev pub ask_passage_by : ℕ → GuardState → ℕ → Option ℕ → Passage
 ask_passage_by moment guard id (Some place) = known_passage moment guard id place (asker_at guard place)
-ask_passage_by moment guard id None = new_passage id (free_place moment guard)
+ask_passage_by moment guard id None =
+    new_passage moment guard id (position (is_spent guard.records) guard.askers)
 
 abbrev pub ask_passage : ℕ → GuardState → ℕ → Passage
 ask_passage moment guard id = ask_passage_by moment guard id (position (is_of id) guard.askers)

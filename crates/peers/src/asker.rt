@@ -3,7 +3,7 @@ ghost use Rattle.std.specs.Prelude.{◌≡◌, ◌≢◌, [], IfErr, None, OnOk,
 ghost use Rattle.wire.specs.Fulfilled.{BrokenOff, Handed, scene};
 ghost use Rattle.wire.specs.Turned.{EndsInStep, devices};
 ghost use Rattle.wire.specs.declared.turned.TurnFault.TheVariants.{LinkFault as Unlinked};
-ghost use Rattle.peers.specs.Guard.{gone_back, idle_passage, is_idle_at, is_of, is_over, is_returned_by, or_none, returned_by};
+ghost use Rattle.peers.specs.Guard.{gone_back, idle_passage, is_idle_at, is_of, is_over, is_returned_by, is_spent, or_none, returned_by};
 
 use crate::alone::hand_alone;
 use crate::limits::{LEASE_SECONDS, MOST_WAIT_SECONDS};
@@ -73,6 +73,16 @@ impl Asker {
         self.records == records
     }
 
+    // Whether it gave its lease back, and the peer has brought no new record since that was granted.
+    pub fn is_spent(&self, records: u64) -> bool
+        ensures { result ≡ is_spent records self.now }
+    {
+        match &self.returning {
+            Some(_) => false,
+            None => self.is_idle(records),
+        }
+    }
+
     // The frame that gives its lease back; an empty one where it has none.
     pub fn returning(&self) -> &[u8]
         ensures { result.now ≡ or_none self.now.returning }
@@ -104,9 +114,9 @@ impl Asker {
         quiet > LEASE_SECONDS
     }
 
-    // What becomes of an `ASK` of it, where the peer has brought no new record since.
-    pub fn idle_passage(&self, moment: u64, place: usize) -> Passage
-        ensures { result ≡ idle_passage moment place self.now }
+    // What becomes of an `ASK` of this id at its place, where the peer has brought no new record since.
+    pub fn idle_passage(&self, moment: u64, id: u32, place: usize) -> Passage
+        ensures { result ≡ idle_passage moment id place self.now }
     {
         if self.returning.is_some() {
             Passage::GiveBack { place }
@@ -114,7 +124,7 @@ impl Asker {
             Passage::Later
         } else {
             Passage::Ask {
-                id: self.id,
+                id,
                 place,
                 wait: self.wait.saturating_mul(2).min(MOST_WAIT_SECONDS),
             }

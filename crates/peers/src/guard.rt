@@ -4,7 +4,7 @@ ghost use Rattle.wire.specs.Fulfilled.{BrokenOff, Handed, scene};
 ghost use Rattle.wire.specs.Happening.{Happening};
 ghost use Rattle.wire.specs.Turned.{EndsInStep, devices};
 ghost use Rattle.wire.specs.declared.turned.TurnFault.TheVariants.{LinkFault as Unlinked};
-ghost use Rattle.peers.specs.Guard.{TellsPeer, ask_passage, brought, dismissed_for, forgotten, free_place, fresh, given_back, granted, handed_line, with_answer, is_of, is_over, is_returned_by, later_frame, passage, put_at, remembered, returned};
+ghost use Rattle.peers.specs.Guard.{TellsPeer, ask_passage, brought, dismissed_for, forgotten, free_place, fresh, given_back, granted, handed_line, with_answer, is_of, is_over, is_returned_by, is_spent, later_frame, new_passage, passage, put_at, remembered, returned};
 
 use crate::asker::Asker;
 use crate::dismissal::Dismissal;
@@ -88,15 +88,35 @@ impl Guard {
         if let Some(place) = self.place_of(id) {
             let asker = &self.askers[place];
             if asker.is_idle(self.records) {
-                asker.idle_passage(moment, place)
+                asker.idle_passage(moment, id, place)
             } else {
                 Passage::Ask { id, place, wait: 1 }
             }
+        } else {
+            self.new_passage(moment, id)
+        }
+    }
+
+    // What becomes of an `ASK` of an id that has no place: where others brought nothing, it waits as the first of them does.
+    fn new_passage(&self, moment: u64, id: u32) -> Passage
+        ensures { result ≡ new_passage moment self.now id (position (is_spent self.now.records) self.now.askers) }
+    {
+        if let Some(place) = self.first_spent() {
+            self.askers[place].idle_passage(moment, id, place)
         } else if let Some(place) = self.free_place(moment) {
             Passage::Ask { id, place, wait: 1 }
         } else {
             Passage::Later
         }
+    }
+
+    // The place of the first asker that gave its lease back, where the peer has brought no new record since.
+    fn first_spent(&self) -> Option<usize>
+        ensures value { result ≡ position (is_spent self.now.records) self.now.askers }
+        ensures within { IfSome result (λ place. place < length self.now.askers) }
+    {
+        let records = self.records;
+        self.askers.iter().position(|asker| asker.is_spent(records))
     }
 
     // The place of the asker with this id.

@@ -3,6 +3,7 @@ pub mod WorkTurns
 pub mod Moves
 pub mod Becoming
 pub mod Peers
+pub mod Taking
 pub mod Roots
 pub mod Steps
 pub mod Settling

@@ -1,5 +1,5 @@
 -- A coordinator that was begun and served, and a ledger that stays in step with it.
-use Rattle.std.proofs.Common.{◌≡◌, ℕ, ◌+◌, List, [], ◌∷◌, ◌++◌, length, Option, Some, None, Result, Ok, Err, IfSome, inl, inr, refl, sym, ap, ◌∙◌, subst, append-nil, length-append, arith}
+use Rattle.std.proofs.Common.{◌≡◌, ◌⊎◌, ℕ, ◌+◌, List, [], ◌∷◌, ◌++◌, length, Option, Some, None, Result, Ok, Err, IfSome, inl, inr, refl, sym, ap, ◌∙◌, subst, append-nil, length-append, arith}
 use Rattle.std.specs.declared.io.Error.{Error}
 use Rattle.machine_text.specs.Packed.{empty_table}
 use Rattle.ledger.specs.Reading.{IsAllRead}
@@ -94,6 +94,14 @@ module _ {F : Type 0} (n era : ℕ) (remaining : F → Option (List ℕ)) where
       kept = ledger_kept held old then new first last leased is starts serves.step;
     }
 
+    none_open : IsSettled last → (leased : Leased) → last.held ≡ Some leased → NoneOpen leased.board
+    none_open settled leased is = subst (λ (o : Option Leased). IfSome (board_of o) NoneOpen) is settled
+
     -- and of a settled one
     pub settled_board : IsSettled last → (leased : Leased) → last.held ≡ Some leased → IsSettledBoard n era remaining held old new leased.board
-    settled_board settled leased is = (served_board leased is, subst (λ (o : Option Leased). IfSome (board_of o) NoneOpen) is settled)
+    settled_board settled leased is = (served_board leased is, none_open settled leased is)
+
+    -- or of one whose workers have taken all rounds
+    pub run_board : (AreTaken : Type 0) → IsSettled last ⊎ AreTaken → (leased : Leased) → last.held ≡ Some leased → IsServedBoard n era remaining held old new leased.board × (NoneOpen leased.board ⊎ AreTaken)
+    run_board AreTaken (inl settled) leased is = (served_board leased is, inl (none_open settled leased is))
+    run_board AreTaken (inr taken) leased is = (served_board leased is, inr taken)

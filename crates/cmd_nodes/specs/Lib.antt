@@ -1,8 +1,8 @@
 pub mod Faults
 pub mod Losses
-pub mod Rounds
 pub mod Moving
 pub mod Kept
 pub mod Served
+pub mod Rounds
 pub mod Settled
 pub mod inside

@@ -1,5 +1,5 @@
 -- What a ledger holds in the end of what was opened of it, and what a coordinator holds.
-use Rattle.std.specs.Prelude.{◌≡◌, ℕ, List, Option, Some, Result, Ok, Err, IfSome, length}
+use Rattle.std.specs.Prelude.{◌≡◌, ◌⊎◌, ℕ, List, All, Option, Some, Result, Ok, Err, IfSome, length}
 use Rattle.std.specs.declared.io.Error.{Error}
 use Rattle.machine_text.specs.Packed.{empty_table}
 use Rattle.ledger.specs.Contents.{Contents, IsBoard}
@@ -15,8 +15,11 @@ use Rattle.files.specs.declared.opened.Opened.{Opened}
 use Rattle.cmd_options.specs.Ends.{PrintsNothing}
 use Rattle.cmd_options.specs.declared.ended.Ended.{Ended}
 use Rattle.cmd_options.specs.declared.outcome.Outcome.{Outcome}
+use Rattle.cmd_options.specs.declared.options.Settling.{Settling}
 use Rattle.lease_core.specs.CoordinatorRules.{Coordinating}
 use Rattle.lease_core.specs.Starts.{started}
+use Rattle.wire.specs.Fulfilled.{Answering}
+use Rattle.cmd_nodes.specs.Rounds.{HasTakenRounds}
 use Rattle.cmd_nodes.specs.Served.{IsBegunFrom, ComesToHold, NoneOpen}
 
 -- what a ledger holds is what was opened of it, to its last byte
@@ -46,6 +49,12 @@ pub record IsServedBoard {F : Type 0} (n era : ℕ) (remaining : F → Option (L
 abbrev pub IsSettledBoard : {F : Type 0} → ℕ → ℕ → (F → Option (List ℕ)) → Result (Opened F) Error → Option (List ℕ)
     → Option (List ℕ) → Contents → Type 0
 IsSettledBoard n era remaining held old new board = IsServedBoard n era remaining held old new board × NoneOpen board
+
+-- in a run: no table of it is open, or each worker has taken all of its rounds
+abbrev pub IsRunBoard : {F N : Type 0} → Answering N → Settling → List N → (F → Option (List ℕ))
+    → Result (Opened F) Error → Option (List ℕ) → Option (List ℕ) → Contents → Type 0
+IsRunBoard answers run workers remaining held old new board = IsServedBoard run.states 1 remaining held old new board
+    × (NoneOpen board ⊎ All (HasTakenRounds answers run.rounds) workers)
 
 -- what a coordinator holds in the end: a board of the tree of n states, whose ledger is kept; the outcome is by how it
 -- stands

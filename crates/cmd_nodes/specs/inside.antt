@@ -1,5 +1,5 @@
 -- For the code: a coordinator that is served, and the report of its board.
-use Rattle.std.specs.Prelude.{◌≡◌, ℕ, List, Option, Some, Result, Ok, Err, IfSome}
+use Rattle.std.specs.Prelude.{◌≡◌, ℕ, ◌<◌, List, Option, Some, Result, Ok, Err, IfSome, length, slice_index_or}
 use Rattle.std.specs.Io.KnownBytes.{Appends}
 use Rattle.std.specs.declared.io.Error.{Error}
 use Rattle.machine_text.specs.Packed.{Packed}
@@ -17,6 +17,7 @@ use Rattle.cmd_ledgers.specs.LedgerReport.{outcome_by}
 use Rattle.cmd_ledgers.specs.Reading.{IsLoadedFrom}
 use Rattle.cmd_options.specs.declared.outcome.Outcome.{Outcome}
 use Rattle.cmd_ledgers.specs.Settled.{FormText}
+use Rattle.cmd_nodes.specs.declared.station.Station.{Station}
 use Rattle.cmd_nodes.specs.Served.{Becomes, NoneOpen}
 use Rattle.cmd_nodes.specs.Settled.{IsOfLedger}
 
@@ -43,6 +44,11 @@ StartsInStep remaining (Err fault) old new c = Unit {0}
 -- no table of the board that a coordinator holds is open
 abbrev pub IsSettled : Coordinating → Type 0
 IsSettled c = IfSome (board_of c.held) NoneOpen
+
+-- each worker became so, at its place
+abbrev pub EachBecomes : {N Y : Type 0} → (N → N → Type 0) → List (Station N Y) → List (Station N Y) → Type 0
+EachBecomes {N} {Y} Became old new = (length new ≡ length old) × ((k : ℕ) (d : Station N Y) → k < length old
+    → Became (slice_index_or old k d).worker (slice_index_or new k d).worker)
 
 -- a coordinator began with the board that was loaded of the ledger that a reader has in its first bytes, and its ledger is in
 -- step with it, where that held no more

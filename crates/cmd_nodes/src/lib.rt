@@ -4,7 +4,8 @@
 //!
 //! `specs/Losses` says which frames of a link are lost on purpose, `specs/Rounds` what happens to a worker in a round,
 //! `specs/Moving` what has become of bytes that were to be moved from one end of a link through a stream to the other,
-//! `specs/Settled` what a coordinator holds in the end, and what its ledger does.
+//! `specs/Served` what a coordinator was begun from and to which board it came, `specs/Settled` what it holds in the end, and
+//! what its ledger does.
 #![tactic(auto)]
 
 mod answerer;

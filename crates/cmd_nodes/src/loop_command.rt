@@ -5,7 +5,7 @@ ghost use Rattle.cmd_options.specs.Ends.{EndsTold};
 ghost use Rattle.cmd_options.specs.declared.ended.Ended.{Ended as Ends};
 ghost use Rattle.cmd_options.specs.declared.outcome.Outcome.{Outcome as Outcomes};
 ghost use Rattle.cmd_ledgers.specs.Settled.{SettlesTree, TellsTree};
-ghost use Rattle.cmd_nodes.specs.Settled.{IsServedBoard};
+ghost use Rattle.cmd_nodes.specs.Settled.{IsRunBoard};
 
 use crate::couriers::OverSockets;
 use crate::run_command::{Run, settle};
@@ -41,12 +41,12 @@ pub fn cmd_loop<
 ) -> Outcome
     requires { (1 ≤ run.settling.now.states) × (run.settling.now.states ≤ state_limit) }
     ensures tells { TellsTree (P.is_text run.entry.form.now) run.entry.settling.now.states
-        (IsServedBoard run.entry.settling.now.states 1 F.remaining held (L.text ledger.old) (L.text ledger.new))
-        (W.contents answers.old) (W.contents answers.new) result }
+        (IsRunBoard N.answers run.entry.settling.now run.entry.workers.items F.remaining held (L.text ledger.old)
+        (L.text ledger.new)) (W.contents answers.old) (W.contents answers.new) result }
     ensures ends { (ended : Result Outcomes Ends) × (said : Option (List ℕ))
         × SettlesTree (P.is_text run.entry.form.now) run.entry.settling.now.states
-        (IsServedBoard run.entry.settling.now.states 1 F.remaining held (L.text ledger.old) (L.text ledger.new))
-        (W.contents answers.old) (W.contents answers.new) ended
+        (IsRunBoard N.answers run.entry.settling.now run.entry.workers.items F.remaining held (L.text ledger.old)
+        (L.text ledger.new)) (W.contents answers.old) (W.contents answers.new) ended
         × EndsTold ended said (E.contents faults.new) result }
 {
     told(
@@ -75,8 +75,8 @@ fn loop_tree<
 ) -> Result<Outcome, Ended>
     requires { (1 ≤ run.settling.now.states) × (run.settling.now.states ≤ state_limit) }
     ensures { SettlesTree (P.is_text run.entry.form.now) run.entry.settling.now.states
-        (IsServedBoard run.entry.settling.now.states 1 F.remaining held (L.text ledger.old) (L.text ledger.new))
-        (W.contents answers.old) (W.contents answers.new) result }
+        (IsRunBoard N.answers run.entry.settling.now run.entry.workers.items F.remaining held (L.text ledger.old)
+        (L.text ledger.new)) (W.contents answers.old) (W.contents answers.new) result }
 {
     let couriers = OverSockets { sockets };
     settle(alloc, run, &couriers, held, ledger, progress, answers)

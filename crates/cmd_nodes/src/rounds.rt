@@ -1,7 +1,8 @@
 // Rounds of a coordinator and workers in one process.
-ghost use Rattle.std.specs.Prelude.{◌≡◌, OnOk, true};
+ghost use Rattle.std.specs.Prelude.{◌≡◌, ◌⊎◌, OnOk, true};
+ghost use Rattle.cmd_nodes.specs.Rounds.{TakesRound, TakesRounds};
 ghost use Rattle.cmd_nodes.specs.Served.{NoneOpen};
-ghost use Rattle.cmd_nodes.specs.inside.{IsServed, IsSettled};
+ghost use Rattle.cmd_nodes.specs.inside.{EachBecomes, IsServed, IsSettled};
 
 use crate::couriers::Courier;
 use crate::faults::by_turn;
@@ -22,7 +23,9 @@ pub(crate) fn run_rounds<N: Node, Y: Courier, L: LedgerOut, P: Progress>(
     rounds: u64,
     progress: &mut P,
 ) -> Result<(), Ended>
-    ensures { OnOk result (IsServed coordinator.old coordinator.new (L.text ledger.old) (L.text ledger.new)) }
+    ensures served { OnOk result (IsServed coordinator.old coordinator.new (L.text ledger.old) (L.text ledger.new)) }
+    ensures ends { OnOk result (IsSettled coordinator.new
+        ⊎ EachBecomes (TakesRounds N.answers rounds) stations.old.items stations.new.items) }
 {
     for before in 0..rounds {
         if is_settled(coordinator) {
@@ -42,7 +45,8 @@ fn run_round<N: Node, Y: Courier, L: LedgerOut>(
     stations: &mut Vec<Station<N, Y>>,
     round: u64,
 ) -> Result<(), Ended>
-    ensures { OnOk result (IsServed coordinator.old coordinator.new (L.text ledger.old) (L.text ledger.new)) }
+    ensures served { OnOk result (IsServed coordinator.old coordinator.new (L.text ledger.old) (L.text ledger.new)) }
+    ensures taken { OnOk result (EachBecomes (TakesRound N.answers round) stations.old.items stations.new.items) }
 {
     tick(coordinator, ledger, round)?;
     for station in stations.iter_mut() {

@@ -1,12 +1,13 @@
 // `bb run`: a coordinator and workers in one process, and then the report.
-ghost use Rattle.std.specs.Prelude.{◌≤◌, List, ℕ, OnOk, Option, Result};
+ghost use Rattle.std.specs.Prelude.{◌≡◌, ◌⊎◌, ◌≤◌, All, IfOk, List, ℕ, OnOk, Option, Result, map};
 ghost use Rattle.machine_text.specs.Limits.{state_limit};
 ghost use Rattle.cmd_options.specs.Ends.{EndsTold};
 ghost use Rattle.cmd_options.specs.declared.ended.Ended.{Ended as Ends};
 ghost use Rattle.cmd_options.specs.declared.outcome.Outcome.{Outcome as Outcomes};
 ghost use Rattle.cmd_ledgers.specs.Settled.{SettlesTree, TellsTree};
-ghost use Rattle.cmd_nodes.specs.Settled.{IsServedBoard};
-ghost use Rattle.cmd_nodes.specs.inside.{IsServed};
+ghost use Rattle.cmd_nodes.specs.Settled.{IsRunBoard};
+ghost use Rattle.cmd_nodes.specs.Rounds.{HasTakenRounds};
+ghost use Rattle.cmd_nodes.specs.inside.{IsServed, IsSettled};
 
 use crate::coord::start_coordinator;
 use crate::couriers::{Couriers, InMemory};
@@ -55,12 +56,12 @@ pub fn cmd_run<
 ) -> Outcome
     requires { (1 ≤ run.settling.now.states) × (run.settling.now.states ≤ state_limit) }
     ensures tells { TellsTree (P.is_text run.entry.form.now) run.entry.settling.now.states
-        (IsServedBoard run.entry.settling.now.states 1 F.remaining held (L.text ledger.old) (L.text ledger.new))
-        (W.contents answers.old) (W.contents answers.new) result }
+        (IsRunBoard N.answers run.entry.settling.now run.entry.workers.items F.remaining held (L.text ledger.old)
+        (L.text ledger.new)) (W.contents answers.old) (W.contents answers.new) result }
     ensures ends { (ended : Result Outcomes Ends) × (said : Option (List ℕ))
         × SettlesTree (P.is_text run.entry.form.now) run.entry.settling.now.states
-        (IsServedBoard run.entry.settling.now.states 1 F.remaining held (L.text ledger.old) (L.text ledger.new))
-        (W.contents answers.old) (W.contents answers.new) ended
+        (IsRunBoard N.answers run.entry.settling.now run.entry.workers.items F.remaining held (L.text ledger.old)
+        (L.text ledger.new)) (W.contents answers.old) (W.contents answers.new) ended
         × EndsTold ended said (E.contents faults.new) result }
 {
     told(
@@ -80,8 +81,8 @@ fn run_tree<P: ReportForm, F: Read + Drop, L: LedgerOut, N: Node + Drop, G: Prog
 ) -> Result<Outcome, Ended>
     requires { (1 ≤ run.settling.now.states) × (run.settling.now.states ≤ state_limit) }
     ensures { SettlesTree (P.is_text run.entry.form.now) run.entry.settling.now.states
-        (IsServedBoard run.entry.settling.now.states 1 F.remaining held (L.text ledger.old) (L.text ledger.new))
-        (W.contents answers.old) (W.contents answers.new) result }
+        (IsRunBoard N.answers run.entry.settling.now run.entry.workers.items F.remaining held (L.text ledger.old)
+        (L.text ledger.new)) (W.contents answers.old) (W.contents answers.new) result }
 {
     let couriers = InMemory {
         lose: run.settling.lose,
@@ -109,8 +110,8 @@ pub(crate) fn settle<
 ) -> Result<Outcome, Ended>
     requires { (1 ≤ run.settling.now.states) × (run.settling.now.states ≤ state_limit) }
     ensures { SettlesTree (P.is_text run.entry.form.now) run.entry.settling.now.states
-        (IsServedBoard run.entry.settling.now.states 1 F.remaining held (L.text ledger.old) (L.text ledger.new))
-        (W.contents answers.old) (W.contents answers.new) result }
+        (IsRunBoard N.answers run.entry.settling.now run.entry.workers.items F.remaining held (L.text ledger.old)
+        (L.text ledger.new)) (W.contents answers.old) (W.contents answers.new) result }
 {
     let beginning = Beginning {
         states: run.settling.states,
@@ -131,7 +132,9 @@ fn run_workers<P, L: LedgerOut, N: Node + Drop, Y: Couriers, G: Progress>(
     ledger: &mut L,
     progress: &mut G,
 ) -> Result<(), Ended>
-    ensures { OnOk result (IsServed node.old node.new (L.text ledger.old) (L.text ledger.new)) }
+    ensures served { OnOk result (IsServed node.old node.new (L.text ledger.old) (L.text ledger.new)) }
+    ensures ends { OnOk result (IsSettled node.new
+        ⊎ All (HasTakenRounds N.answers run.entry.settling.now.rounds) run.entry.workers.items) }
 {
     let settling = run.settling;
     let mut stations = stations(alloc, run.workers, couriers)?;
@@ -143,7 +146,9 @@ fn stations<N: Node + Drop, Y: Couriers>(
     alloc: Global,
     workers: Vec<N>,
     couriers: &Y,
-) -> Result<Vec<Station<N, Y::Courier>>, Ended> {
+) -> Result<Vec<Station<N, Y::Courier>>, Ended>
+    ensures { IfOk result (λ stations. map (λ station. station.worker) stations.items ≡ workers.items) }
+{
     let base = couriers.begin()?;
     let mut stations = Vec::new(alloc);
     for worker in workers {

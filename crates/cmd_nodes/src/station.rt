@@ -1,5 +1,6 @@
 // A worker in the same process as its coordinator.
-ghost use Rattle.std.specs.Prelude.{OnOk};
+ghost use Rattle.std.specs.Prelude.{◌≡◌, OnOk};
+ghost use Rattle.cmd_nodes.specs.Rounds.{AnswersRound, TakesRound};
 ghost use Rattle.cmd_nodes.specs.Served.{Becomes};
 ghost use Rattle.cmd_nodes.specs.inside.{IsServed, KeepsStep};
 
@@ -60,7 +61,9 @@ impl LinkEnd {
 
 impl<N: Node, Y: Courier> Station<N, Y> {
     // A worker that was started from an empty ledger.
-    pub fn new(alloc: Global, worker: N, courier: Y) -> Station<N, Y> {
+    pub fn new(alloc: Global, worker: N, courier: Y) -> Station<N, Y>
+        ensures { result.worker ≡ worker }
+    {
         Station {
             worker,
             ledger: NoLedger,
@@ -77,24 +80,32 @@ impl<N: Node, Y: Courier> Station<N, Y> {
         coordinator: &mut Coordinator,
         ledger: &mut L,
     ) -> Result<(), Ended>
-        ensures { OnOk result (IsServed coordinator.old coordinator.new (L.text ledger.old) (L.text ledger.new)) }
+        ensures served { OnOk result
+            (IsServed coordinator.old coordinator.new (L.text ledger.old) (L.text ledger.new)) }
+        ensures taken { OnOk result (TakesRound N.answers round self.old.worker self.new.worker) }
     {
-        let worked = work(
-            &mut self.worker,
-            round,
-            &mut self.near.link,
-            &mut self.ledger,
-        );
-        // All that is its own is in memory.
-        if worked.is_err() {
-            return Err(Ended::NoMemory);
-        }
+        self.work_for(round)?;
         self.courier
             .to_coordinator(&mut self.near.link, &mut self.far.link)?;
         serve_coordinator(&mut self.far, coordinator, ledger)?;
         self.courier
             .to_worker(&mut self.far.link, &mut self.near.link)?;
         match self.near.serve(&mut self.worker, &mut self.ledger) {
+            Ok(()) => Ok(()),
+            Err(_) => Err(Ended::NoMemory),
+        }
+    }
+
+    // The worker works, and is told the round. All that is its own is in memory.
+    fn work_for(&mut self, round: u64) -> Result<(), Ended>
+        ensures { OnOk result (AnswersRound N.answers round self.old.worker self.new.worker) }
+    {
+        match work(
+            &mut self.worker,
+            round,
+            &mut self.near.link,
+            &mut self.ledger,
+        ) {
             Ok(()) => Ok(()),
             Err(_) => Err(Ended::NoMemory),
         }

@@ -74,8 +74,8 @@ line doesn't come within 10 seconds, or of whom nothing comes for an hour; where
 silent longest, for a minute at least, makes room for another. At a terminal it is said who comes, and why one is gone.
 
 The token is what FILE holds, without a newline at its end. Once no table is open the coordinator goes on until each
-worker is gone, or for 5 seconds. SIGINT and SIGTERM end it at once; what was acknowledged stands in the ledger. A ledger
-is cut or appended to only where that is due.
+worker is gone, or for 5 seconds. SIGINT and SIGTERM end it at once; what was acknowledged stands in the ledger. A
+ledger is cut or appended to only where that is due.
 
 Exit status: 0 at the end the board is complete; 1 it isn't, or the ledger was refused
 (`refused 404` no header with a readable table, `refused 405` another root); 2 a wrong command line, or an address at

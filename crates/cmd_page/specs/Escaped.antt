@@ -4,7 +4,6 @@ use Rattle.std.specs.Prelude.{◌≡◌, ◌⊎◌, ℕ, ◌==◌, if◌then◌e
 use Rattle.std.specs.List.{concat}
 use Rattle.machine_text.specs.Packed.{Packed}
 use Rattle.machine_text.specs.Text.{text_of}
-use Rattle.cmd_page.specs.declared.markup.TheConstants.{CODE, CODE_END}
 
 -- what stands for a byte
 unfoldable pub entity : ℕ → List ℕ
@@ -26,4 +25,4 @@ EndsText byte = (byte ≡ 34) ⊎ ((byte ≡ 39) ⊎ ((byte ≡ 60) ⊎ (byte �
 
 -- a table, whose text needs no escaping
 unfoldable pub code_html : Packed → List ℕ
-code_html t = concat (CODE.now ∷ text_of t ∷ CODE_END.now ∷ [])
+code_html t = concat (codes "<code>" ∷ text_of t ∷ codes "</code>" ∷ [])

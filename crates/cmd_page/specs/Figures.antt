@@ -13,8 +13,6 @@ use Rattle.cmd_show.specs.Rows.{Shown, AreRows}
 use Rattle.cmd_show.specs.Svg.{svg_text}
 use Rattle.cmd_show.specs.Visits.{IsPlaced}
 use Rattle.cmd_page.specs.Transitions.{transitions_html}
-use Rattle.cmd_page.specs.declared.figures.TheConstants.{BREAK, CAPTION, CAPTION_END, CELLS, COLUMNS, COMMA, SAMPLED}
-use Rattle.cmd_page.specs.declared.markup.TheConstants.{FIGURE, FIGURE_END}
 
 -- how many champions have a picture
 abbrev pub picture_limit : ℕ
@@ -47,12 +45,12 @@ columns_view visited = record visited { share = share_in column_limit visited.wi
 unfoldable pub every_text : ℕ → List ℕ
 every_text n = if n == 1 then codes "each step" else codes "every " ++ grouped n ++ codes " steps"
 
-unfoldable pub cells_html : View → List ℕ
-cells_html v = concat (COMMA.now ∷ grouped v.width ∷ CELLS.now ∷ grouped (columns_of v) ∷ COLUMNS.now ∷ [])
+unfoldable pub sampled_html : ℕ → ℕ → ℕ → List ℕ
+sampled_html every width columns = concat (codes "<p class='sampled'>A row " ∷ every_text every ∷ codes ", "
+    ∷ grouped width ∷ codes " cells in " ∷ grouped columns ∷ codes " columns</p>\n" ∷ [])
 
-unfoldable pub sampling_html : View → Times → List ℕ
-sampling_html v times =
-    concat (SAMPLED.now ∷ every_text times.every ∷ cells_html v ∷ [])
+abbrev pub sampling_html : View → Times → List ℕ
+sampling_html v times = sampled_html times.every v.width (columns_of v)
 
 -- a picture of a table's run up to its halting, or of so many of its steps: the configurations at these times, in all
 -- cells that it visits, and how they are sampled
@@ -70,12 +68,13 @@ IsPictureIf true t best svg = IsChampionPicture t best svg
 IsPictureIf false t best svg = svg ≡ []
 
 unfoldable pub caption_html : Packed → ℕ → List ℕ
-caption_html t best = concat (CAPTION.now ∷ code_html t ∷ BREAK.now ∷ grouped best ∷ CAPTION_END.now ∷ [])
+caption_html t best = concat (codes "<figcaption>" ∷ code_html t ∷ codes "<br>" ∷ grouped best
+    ∷ codes " steps</figcaption>\n</figure>\n" ∷ [])
 
 -- a table with its picture, its transitions and its number of steps
 unfoldable pub figure_html : Packed → ℕ → List ℕ → List ℕ
 figure_html t best svg =
-    concat (FIGURE.now ∷ svg ∷ transitions_html t ∷ caption_html t best ∷ FIGURE_END.now ∷ [])
+    concat (codes "<figure>\n" ∷ svg ∷ transitions_html t ∷ caption_html t best ∷ [])
 
 -- a figure for each table, with a picture for as many as may have one
 unfoldable pub AreFiguresOf : ℕ → ℕ → List Packed → List ℕ → Type 0

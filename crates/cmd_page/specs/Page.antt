@@ -22,19 +22,14 @@ use Rattle.cmd_page.specs.Sentence.{sentence_html}
 use Rattle.cmd_page.specs.Steps.{steps_html}
 use Rattle.cmd_page.specs.KindWords.{kind_words}
 use Rattle.cmd_page.specs.Style.{policy}
-use Rattle.cmd_page.specs.declared.markup.TheConstants.{ROW_END}
 use Rattle.cmd_page.specs.declared.script.TheConstants.{SCRIPT}
 use Rattle.cmd_page.specs.declared.style.TheConstants.{CHAMPIONS, ENDING, ENTRIES, HALTING_LINKS, HEADING, HOLDOUTS, HOLDOUTS_LINK, ITEMS_END}
 use Rattle.cmd_page.specs.declared.style.TheConstants.{KINDS, LOOK, ONES_CHAMPIONS, PAGE_START, PARTS, RECORD_LINKS, ROWS_END, STATUS}
-use Rattle.cmd_page.specs.declared.summary.TheConstants.{ROOT, ROOT_END}
 
--- the beginning, up to the title
-unfoldable pub start_html : List ℕ
-start_html = concat (PAGE_START.now ∷ policy ∷ LOOK.now ∷ [])
-
--- the title, in the title bar and as the heading
+-- the beginning, with the title in the title bar and as the heading
 unfoldable pub opening_html : List ℕ → List ℕ
-opening_html title = concat (start_html ∷ escaped title ∷ HEADING.now ∷ escaped title ∷ [])
+opening_html title =
+    concat (PAGE_START.now ∷ policy ∷ LOOK.now ∷ escaped title ∷ HEADING.now ∷ escaped title ∷ [])
 
 -- what stands where there are some, and where there is a greatest number
 abbrev pub where_some : ℕ → List ℕ → List ℕ
@@ -54,50 +49,41 @@ parts_html tally = concat (PARTS.now ∷ where_some (record_count tally) RECORD_
     ∷ where_found tally.best HALTING_LINKS.now ∷ where_some tally.holdouts HOLDOUTS_LINK.now ∷ STATUS.now ∷ [])
 
 unfoldable pub root_html : Packed → List ℕ
-root_html root = concat (ROOT.now ∷ code_html root ∷ ROOT_END.now ∷ [])
+root_html root = concat (codes "<p>Root " ∷ code_html root ∷ codes "</p>\n<table>\n" ∷ [])
 
 -- how the board stands, in words; where the tree is complete, the sentence that says what it shows stands behind that
-abbrev pub status_html : Status → List ℕ
+unfoldable pub status_html : Status → List ℕ
 status_html (Working count) = codes "<p><strong>Working.</strong> There are open tables.</p>\n"
 status_html (Holdouts count) = codes "<p><strong>Holdouts.</strong> No table is open, and not all have a verdict.</p>\n"
 status_html (Complete best ones) = codes "<p><strong>Complete.</strong> Each table of the tree has a verdict.</p>\n"
 
 -- what wasn't kept of the ledger
-abbrev pub left_line_html : ℕ → List ℕ
-left_line_html line =
+unfoldable pub left_html : Left → List ℕ
+left_html Nothing = []
+left_html (From line kept why) =
     concat (codes "<p class='left'>From line " ∷ decimal line ∷ codes " on, the ledger isn't kept.</p>\n" ∷ [])
 
-abbrev pub left_html : Left → List ℕ
-left_html Nothing = []
-left_html (From line kept why) = left_line_html line
+unfoldable pub verdicts_html : Tally → List ℕ
+verdicts_html tally = concat (count_html (codes "Tables") tally.nodes ∷ count_html (codes "Halting") tally.halting
+    ∷ count_html (codes "Never halting") tally.never ∷ count_html (codes "Holdouts") tally.holdouts
+    ∷ count_html (codes "Open") tally.open_count ∷ [])
 
-abbrev pub verdicts_html : Tally → List ℕ
-verdicts_html tally = count_html (codes "Tables") tally.nodes ++ count_html (codes "Halting") tally.halting
-    ++ count_html (codes "Never halting") tally.never
+unfoldable pub tally_html : Tally → List ℕ
+tally_html tally = concat (verdicts_html tally ∷ most_html (codes "Most steps") tally.best
+    ∷ most_html (codes "Most ones") tally.ones ∷ [])
 
-abbrev pub greatest_html : Tally → List ℕ
-greatest_html tally = most_html (codes "Most steps") tally.best ++ most_html (codes "Most ones") tally.ones
+unfoldable pub summary_html : Packed → Status → Tally → Left → List ℕ
+summary_html root status tally left = concat (status_html status ∷ sentence_html root status ∷ left_html left
+    ∷ root_html root ∷ tally_html tally ∷ [])
 
-abbrev pub tally_html : Tally → List ℕ
-tally_html tally = verdicts_html tally ++ count_html (codes "Holdouts") tally.holdouts
-    ++ count_html (codes "Open") tally.open_count ++ greatest_html tally
-
-abbrev pub summary_html : Packed → Status → Tally → Left → List ℕ
-summary_html root status tally left =
-    status_html status ++ sentence_html root status ++ left_html left ++ root_html root ++ tally_html tally
-
--- how large a share of all records is, in the row of what a kind is
-unfoldable pub share_html : ℕ → ℕ → List ℕ
-share_html total n = concat (codes "<tr><td class='means' colspan='2'><meter max='" ∷ decimal total ∷ codes "' value='"
-    ∷ decimal n ∷ codes "'></meter>" ∷ [])
-
--- what a kind is, beneath its share
-unfoldable pub means_html : ℕ → ℕ → ℕ → List ℕ
-means_html total n letter = concat (share_html total n ∷ kind_words letter ∷ ROW_END.now ∷ [])
+-- what a kind is, beneath how large a share of all records is
+unfoldable pub means_html : ℕ → ℕ → List ℕ → List ℕ
+means_html total n words = concat (codes "<tr><td class='means' colspan='2'><meter max='" ∷ decimal total
+    ∷ codes "' value='" ∷ decimal n ∷ codes "'></meter>" ∷ words ∷ codes "</td></tr>\n" ∷ [])
 
 -- the rows of a kind, by how many there are of its letter, where there are some
 abbrev pub kind_html : ℕ → ℕ → ℕ → List ℕ
-kind_html total n letter = where_some n (count_html (kind_label letter) n ++ means_html total n letter)
+kind_html total n letter = where_some n (count_html (kind_label letter) n ++ means_html total n (kind_words letter))
 
 -- those of each kind
 abbrev pub kinds_html : ℕ → (ℕ → ℕ) → List ℕ
@@ -120,16 +106,13 @@ abbrev pub champions_html : Option ℕ → List ℕ → List Packed → List ℕ
 champions_html best figures ones_champions =
     where_found best (CHAMPIONS.now ++ figures ++ ones_champions_html ones_champions)
 
--- a holdout's text, as a link to what others know of it
-abbrev pub link_html : List ℕ → List ℕ
-link_html text = codes "<td><a href='https://bbchallenge.org/" ++ text ++ codes "'>" ++ text ++ codes "</a></td>"
-
--- and how many entries it has
-abbrev pub last_cell_html : ℕ → List ℕ
-last_cell_html n = codes "<td>" ++ decimal n ++ codes "</td></tr>\n"
+-- a holdout's text, as a link to what others know of it, and how many entries it has
+unfoldable pub holdout_row : List ℕ → List ℕ → List ℕ
+holdout_row text entries = concat (codes "<tr id='" ∷ text ∷ codes "'><td><a href='https://bbchallenge.org/" ∷ text
+    ∷ codes "'>" ∷ text ∷ codes "</a></td><td>" ∷ entries ∷ codes "</td></tr>\n" ∷ [])
 
 unfoldable pub holdout_html : Packed → List ℕ
-holdout_html t = codes "<tr id='" ++ text_of t ++ codes "'>" ++ link_html (text_of t) ++ last_cell_html (entry_count t)
+holdout_html t = holdout_row (text_of t) (decimal (entry_count t))
 
 abbrev pub holdouts_html : List Packed → List ℕ
 holdouts_html tables = flat_map holdout_html tables

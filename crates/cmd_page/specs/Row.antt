@@ -4,7 +4,7 @@ use Rattle.std.specs.List.{concat}
 use Rattle.machine_text.specs.Packed.{Packed}
 use Rattle.cmd_page.specs.Escaped.{code_html}
 use Rattle.cmd_page.specs.Groups.{grouped}
-use Rattle.cmd_page.specs.declared.markup.TheConstants.{CELL, ITEM, ITEM_END, ROW, ROW_END}
+use Rattle.cmd_page.specs.declared.markup.TheConstants.{CELL, ROW, ROW_END}
 
 -- a row of a name and a value
 unfoldable pub row_html : List ℕ → List ℕ → List ℕ
@@ -20,7 +20,7 @@ most_html name (Some n) = count_html name n
 
 -- an item for each table
 unfoldable pub item_html : Packed → List ℕ
-item_html t = concat (ITEM.now ∷ code_html t ∷ ITEM_END.now ∷ [])
+item_html t = concat (codes "<li>" ∷ code_html t ∷ codes "</li>\n" ∷ [])
 
 abbrev pub items_html : List Packed → List ℕ
 items_html tables = flat_map item_html tables

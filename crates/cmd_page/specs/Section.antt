@@ -13,8 +13,7 @@ use Rattle.cmd_explain.specs.Why.{TellsWhy}
 use Rattle.cmd_page.specs.Escaped.{code_html, escaped}
 use Rattle.cmd_page.specs.Figures.{IsChampionPicture}
 use Rattle.cmd_page.specs.Transitions.{transitions_html}
-use Rattle.cmd_page.specs.declared.markup.TheConstants.{FIGURE, FIGURE_END}
-use Rattle.cmd_page.specs.declared.section.TheConstants.{NAME, NAME_END, REFUSED, WORDS, WORDS_END}
+use Rattle.cmd_page.specs.declared.section.TheConstants.{WORDS}
 
 -- so many steps are drawn of a run that isn't said to halt
 abbrev pub shown_steps : ℕ
@@ -37,21 +36,22 @@ accepted_by Failed read = None
 
 -- words, each line of them on a line
 unfoldable pub words_html : List ℕ → List ℕ
-words_html words = concat (WORDS.now ∷ escaped words ∷ WORDS_END.now ∷ [])
+words_html words = concat (WORDS.now ∷ escaped words ∷ codes "</p>\n" ∷ [])
 
 unfoldable pub why_html : Option (List ℕ) → List ℕ
 why_html None = []
 why_html (Some words) = words_html words
 
 unfoldable pub record_figure_html : Packed → List ℕ → List ℕ
-record_figure_html t picture = concat (FIGURE.now ∷ picture ∷ transitions_html t ∷ FIGURE_END.now ∷ [])
+record_figure_html t picture =
+    concat (codes "<figure>\n" ∷ picture ∷ transitions_html t ∷ codes "</figure>\n" ∷ [])
 
 unfoldable pub accepted_html : Packed → List ℕ → List ℕ → List ℕ
 accepted_html t explained picture =
-    concat (NAME.now ∷ code_html t ∷ NAME_END.now ∷ words_html explained ∷ record_figure_html t picture ∷ [])
+    concat (codes "<h2>" ∷ code_html t ∷ codes "</h2>\n" ∷ words_html explained ∷ record_figure_html t picture ∷ [])
 
 unfoldable pub refused_html : List ℕ → Option (List ℕ) → List ℕ
-refused_html explained why = concat (REFUSED.now ∷ words_html explained ∷ why_html why ∷ [])
+refused_html explained why = concat (codes "<h2>Refused</h2>\n" ∷ words_html explained ∷ why_html why ∷ [])
 
 -- what stands above the line: of a record that is accepted, and of any other line
 abbrev pub IsShownOf : Option Recorded → Result Recorded RecordFault → List ℕ → List ℕ → Type 0
@@ -60,9 +60,9 @@ IsShownOf (Some r) read explained html = (picture : List ℕ)
 IsShownOf None read explained html = (why : Option (List ℕ)) × TellsWhy read why × (html ≡ refused_html explained why)
 
 -- the line, which is none where it was too long
-abbrev pub line_html : Option (List ℕ) → List ℕ
+unfoldable pub line_html : Option (List ℕ) → List ℕ
 line_html None = []
-line_html (Some line) = codes "<pre>" ++ escaped line ++ codes "</pre>\n"
+line_html (Some line) = concat (codes "<pre>" ∷ escaped line ∷ codes "</pre>\n" ∷ [])
 
 unfoldable pub section_html : List ℕ → Option (List ℕ) → List ℕ
 section_html shown line = codes "<section class='record'>\n" ++ shown ++ line_html line ++ codes "</section>"

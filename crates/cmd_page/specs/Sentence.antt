@@ -1,5 +1,6 @@
 -- The sentence that says what a tree shows once it is complete. Bytes are those of UTF-8: 206 163 `Σ`.
 use Rattle.std.specs.Prelude.{ℕ, ◌==◌, if◌then◌else◌, Some, None, List, [], ◌∷◌, ◌++◌, codes, decimal}
+use Rattle.std.specs.List.{concat}
 use Rattle.machine_text.specs.Packed.{Packed}
 use Rattle.ledger.specs.declared.status.Status.{Status}
 use Rattle.ledger.specs.declared.status.Status.TheVariants.{Working, Holdouts, Complete}
@@ -7,29 +8,19 @@ use Rattle.cmd_page.specs.Census.{entry_count}
 use Rattle.cmd_page.specs.Escaped.{code_html}
 use Rattle.cmd_page.specs.Groups.{grouped}
 
--- what a greatest number of n states is called, and that it is this
-abbrev pub named_html : List ℕ → ℕ → ℕ → List ℕ
-named_html name n number = name ++ decimal n ++ codes ") = " ++ grouped number
-
 -- of the tree of n states, which is that of the empty table
-abbrev pub rado_html : ℕ → ℕ → ℕ → List ℕ
-rado_html n best ones =
-    named_html (codes "<p>So S(") n best ++ named_html (codes " and " ++ 206 ∷ 163 ∷ codes "(") n ones
-    ++ codes ".</p>\n"
+unfoldable pub rado_html : ℕ → ℕ → ℕ → List ℕ
+rado_html n best ones = concat (codes "<p>So S(" ∷ decimal n ∷ codes ") = " ∷ grouped best
+    ∷ (codes " and " ++ 206 ∷ 163 ∷ codes "(") ∷ decimal n ∷ codes ") = " ∷ grouped ones ∷ codes ".</p>\n" ∷ [])
 
 -- of another root: of the tables that extend it, that one itself among them
-abbrev pub tables_html : Packed → List ℕ
-tables_html root = codes "<p>Of the tables below " ++ code_html root
+unfoldable pub below_html : Packed → ℕ → ℕ → List ℕ
+below_html root best ones = concat (codes "<p>Of the tables below " ∷ code_html root
+    ∷ codes " that halt, the most steps are " ∷ grouped best ∷ codes " and the most ones " ∷ grouped ones
+    ∷ codes ".</p>\n" ∷ [])
 
-abbrev pub ones_html : ℕ → List ℕ
-ones_html ones = codes " and the most ones " ++ grouped ones ++ codes ".</p>\n"
-
-abbrev pub below_html : Packed → ℕ → ℕ → List ℕ
-below_html root best ones = tables_html root ++ codes " that halt, the most steps are " ++ grouped best
-    ++ ones_html ones
-
-abbrev pub none_html : Packed → List ℕ
-none_html root = tables_html root ++ codes " none halts.</p>\n"
+unfoldable pub none_html : Packed → List ℕ
+none_html root = concat (codes "<p>Of the tables below " ∷ code_html root ∷ codes " none halts.</p>\n" ∷ [])
 
 -- a root without an entry is the empty table of its states
 abbrev pub shown_html : Packed → ℕ → ℕ → List ℕ
@@ -37,7 +28,7 @@ shown_html root best ones =
     if entry_count root == 0 then rado_html root.states best ones else below_html root best ones
 
 -- nothing where the tree isn't complete
-abbrev pub sentence_html : Packed → Status → List ℕ
+unfoldable pub sentence_html : Packed → Status → List ℕ
 sentence_html root (Working count) = []
 sentence_html root (Holdouts count) = []
 sentence_html root (Complete None None) = none_html root

@@ -4,7 +4,6 @@ use Rattle.std.specs.Prelude.{ℕ, ◌+◌, ◌-◌, ◌*◌, ◌^◌, nat_le, L
 use Rattle.std.specs.List.{concat, range_with_len}
 use Rattle.cmd_page.specs.Groups.{grouped}
 use Rattle.cmd_page.specs.declared.style.TheConstants.{PLOT, PLOT_END, PLOT_HEADS, PLOT_WIDTH}
-use Rattle.cmd_page.specs.declared.steps.TheConstants.{COLON, FIRST, FIRST_END, NUMBER_END, TO}
 
 -- how many of the powers of two 1, 2, 4, .. 2^63 are no more than a number
 unfoldable pub powers_within : ℕ → ℕ
@@ -14,29 +13,17 @@ powers_within n = count_by (λ k. nat_le (2 ^ k) n) (range_with_len 0 64)
 abbrev pub bar_length : ℕ → ℕ
 bar_length n = 5 * powers_within n
 
--- in a row so far beneath the heads
-unfoldable pub place_svg : ℕ → List ℕ
-place_svg y = concat (codes "<g transform='translate(0 " ∷ decimal y ∷ codes ")'><title>Steps " ∷ [])
-
--- what is told of a bar that is pointed at: the steps from the first to the last, and the number
-unfoldable pub told_svg : ℕ → ℕ → ℕ → List ℕ
-told_svg first last n = concat (grouped first ∷ TO.now ∷ grouped last ∷ COLON.now ∷ grouped n ∷ [])
-
--- the first number of steps, before a bar
-unfoldable pub first_svg : ℕ → List ℕ
-first_svg first = concat (FIRST.now ∷ grouped first ∷ FIRST_END.now ∷ [])
-
+-- so far beneath the heads a row begins: what is told of its bar where that is pointed at, the steps from the first to the
+-- last and the number, and the first number of steps before it
 unfoldable pub row_svg : ℕ → ℕ → ℕ → ℕ → List ℕ
-row_svg y first last n = concat (place_svg y ∷ told_svg first last n ∷ first_svg first ∷ [])
+row_svg y first last n = concat (codes "<g transform='translate(0 " ∷ decimal y ∷ codes ")'><title>Steps "
+    ∷ grouped first ∷ codes " to " ∷ grouped last ∷ codes ": " ∷ grouped n
+    ∷ codes "</title><text class='from' x='76' y='15'>" ∷ grouped first ∷ codes "</text>" ∷ [])
 
--- a bar that is so long
-unfoldable pub length_svg : ℕ → List ℕ
-length_svg length = concat (codes "<rect x='84' width='" ∷ decimal length ∷ codes "' height='20'/><text x='"
-    ∷ decimal (length + 90) ∷ codes "' y='15'>" ∷ [])
-
--- and the number behind it
+-- a bar that is so long, and the number behind it
 unfoldable pub rect_svg : ℕ → ℕ → List ℕ
-rect_svg length n = concat (length_svg length ∷ grouped n ∷ NUMBER_END.now ∷ [])
+rect_svg length n = concat (codes "<rect x='84' width='" ∷ decimal length ∷ codes "' height='20'/><text x='"
+    ∷ decimal (length + 90) ∷ codes "' y='15'>" ∷ grouped n ∷ codes "</text></g>\n" ∷ [])
 
 -- the bar of the tables that halt in 2^k steps or more, and in fewer than 2^(k + 1), of which there are so many
 unfoldable pub bar_svg : ℕ → ℕ → List ℕ

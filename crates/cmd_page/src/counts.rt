@@ -1,11 +1,10 @@
 // The rows of what is counted.
 ghost use Rattle.std.specs.Prelude.{◌≡◌, ◌++◌, ◌≤◌, slice_index, OnOk};
 ghost use Rattle.machine_text.specs.Limits.{state_limit};
-ghost use Rattle.cmd_page.specs.Page.{census_html, entries_html, kind_html, kinds_html, means_html, share_html, where_some};
+ghost use Rattle.cmd_page.specs.Page.{census_html, entries_html, kind_html, kinds_html, means_html, where_some};
 
 use crate::census::Census;
 use crate::kind_words::kind_words;
-use crate::markup::ROW_END;
 use crate::rows::{append_count, append_numbered};
 use crate::style::{ENTRIES, KINDS, ROWS_END};
 use cmd_options::{LETTERS, kind_label};
@@ -14,6 +13,7 @@ use std::io::Write;
 
 // Appends what is counted of the records of a board, of which there are so many and whose tables have so many states,
 // where there are records.
+#[tactic(auto, unfolding(crate::specs::Page::census_html))]
 pub(crate) fn append_census(
     states: u8,
     total: u64,
@@ -27,15 +27,6 @@ pub(crate) fn append_census(
     if total == 0 {
         return Ok(());
     }
-    append_counts(states, total, census, out)
-}
-
-#[tactic(auto, unfolding(crate::specs::Page::census_html))]
-fn append_counts(states: u8, total: u64, census: &Census, out: &mut Vec<u8>) -> Result<(), NoMemory>
-    requires { states ≤ state_limit }
-    ensures { OnOk result (out.new.items ≡ out.old.items
-        ++ census_html states total (slice_index census.now.kinds) (slice_index census.now.entries)) }
-{
     out.extend_from_slice(KINDS)?;
     append_kinds(total, &census.kinds, out)?;
     out.extend_from_slice(ENTRIES)?;
@@ -61,27 +52,17 @@ fn append_kind(total: u64, n: u64, letter: u8, out: &mut Vec<u8>) -> Result<(), 
         return Ok(());
     }
     append_count(kind_label(letter), n, out)?;
-    append_means(total, n, letter, out)
+    append_means(total, n, kind_words(letter), out)
 }
 
-// Appends what a kind is, beneath its share.
+// Appends what a kind is, beneath how large a share of all records is.
 #[tactic(auto, unfolding(crate::specs::Page::means_html))]
-fn append_means(total: u64, n: u64, letter: u8, out: &mut Vec<u8>) -> Result<(), NoMemory>
-    ensures { OnOk result (out.new.items ≡ out.old.items ++ means_html total n letter) }
-{
-    append_share(total, n, out)?;
-    out.extend_from_slice(kind_words(letter))?;
-    out.extend_from_slice(ROW_END)
-}
-
-// Begins the row of what a kind is, with how large a share of all records is.
-#[tactic(auto, unfolding(crate::specs::Page::share_html))]
-fn append_share(total: u64, n: u64, out: &mut Vec<u8>) -> Result<(), NoMemory>
-    ensures { OnOk result (out.new.items ≡ out.old.items ++ share_html total n) }
+fn append_means(total: u64, n: u64, words: &str, out: &mut Vec<u8>) -> Result<(), NoMemory>
+    ensures { OnOk result (out.new.items ≡ out.old.items ++ means_html total n words.now) }
 {
     write!(
         out,
-        "<tr><td class='means' colspan='2'><meter max='{total}' value='{n}'></meter>"
+        "<tr><td class='means' colspan='2'><meter max='{total}' value='{n}'></meter>{words}</td></tr>\n"
     )
     .map_err(|_| NoMemory)
 }

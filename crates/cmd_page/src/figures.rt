@@ -2,17 +2,18 @@
 ghost use Rattle.std.specs.Prelude.{◌≡◌, ℕ, ◌<◌, ◌++◌, List, IfOk, OnOk};
 ghost use Rattle.std.specs.Vec.Iter.{into_iter_items};
 ghost use Rattle.cmd_show.specs.Times.{AreWithinRuns};
-ghost use Rattle.cmd_page.specs.Figures.{AreFiguresOf, IsChampionPicture, IsPictureIf, caption_html, cells_html, every_text, figure_html, picture_limit, picture_times, sampling_html};
+ghost use Rattle.cmd_page.specs.Figures.{AreFiguresOf, IsChampionPicture, IsPictureIf, caption_html, every_text, figure_html, picture_limit, picture_times, sampled_html};
 
-use crate::groups::append_grouped;
-use crate::markup::{FIGURE, FIGURE_END};
-use crate::rows::append_code;
+use crate::escape::Code;
+use crate::groups::Grouped;
 use crate::transitions::append_transitions;
 use cmd_show::{Size, Times, View, placement, svg};
 use kind_evidence::NoMemory;
 use ledger::Champions;
 use machine_text::Table;
 use std::alloc::Global;
+use std::fmt;
+use std::io::Write;
 
 // How many champions have a picture.
 const MAX_PICTURES: u64 = 8;
@@ -30,22 +31,6 @@ const PICTURE_SIZE: Size = Size {
 
 // The most steps of a picture: those that a record of a table that halts may claim.
 const MAX_PICTURE_STEPS: u64 = 100_000_000;
-
-// About a caption's table and its number of steps.
-const CAPTION: &[u8] = b"<figcaption>";
-
-const BREAK: &[u8] = b"<br>";
-
-const CAPTION_END: &[u8] = b" steps</figcaption>\n";
-
-// What is said of how a picture is sampled.
-const SAMPLED: &[u8] = b"<p class='sampled'>A row ";
-
-const COMMA: &[u8] = b", ";
-
-const CELLS: &[u8] = b" cells in ";
-
-const COLUMNS: &[u8] = b" columns</p>\n";
 
 // Appends a figure for each champion, which halts in so many steps: as many as have room with a picture.
 pub(crate) fn append_figures(
@@ -71,22 +56,22 @@ pub(crate) fn append_figures(
 fn append_figure(t: &Table, best: u64, picture: &[u8], out: &mut Vec<u8>) -> Result<(), NoMemory>
     ensures { OnOk result (out.new.items ≡ out.old.items ++ figure_html t.now best picture.now) }
 {
-    out.extend_from_slice(FIGURE)?;
+    out.extend_from_slice(b"<figure>\n")?;
     out.extend_from_slice(picture)?;
     append_transitions(t, out)?;
-    append_caption(t, best, out)?;
-    out.extend_from_slice(FIGURE_END)
+    append_caption(t, best, out)
 }
 
 #[tactic(auto, unfolding(crate::specs::Figures::caption_html))]
 fn append_caption(t: &Table, best: u64, out: &mut Vec<u8>) -> Result<(), NoMemory>
     ensures { OnOk result (out.new.items ≡ out.old.items ++ caption_html t.now best) }
 {
-    out.extend_from_slice(CAPTION)?;
-    append_code(t, out)?;
-    out.extend_from_slice(BREAK)?;
-    append_grouped(best, out)?;
-    out.extend_from_slice(CAPTION_END)
+    let (table, best) = (Code(t), Grouped(best));
+    write!(
+        out,
+        "<figcaption>{table}<br>{best} steps</figcaption>\n</figure>\n"
+    )
+    .map_err(|_| NoMemory)
 }
 
 // A picture, where there is to be one; otherwise nothing.
@@ -109,45 +94,39 @@ pub(crate) fn run_picture(alloc: Global, t: Table, best: u64) -> Result<Vec<u8>,
     let visited = placement(alloc, t, times)?;
     let view = visited.in_columns(MAX_COLUMNS);
     let mut html = svg(alloc, t, view, times, PICTURE_SIZE)?;
-    append_sampling(view, times, &mut html)?;
+    append_sampled(times.every, view.width, view.columns(), &mut html)?;
     Ok(html)
 }
 
-// Appends how a picture is sampled.
-#[tactic(auto, unfolding(crate::specs::Figures::sampling_html))]
-fn append_sampling(view: View, times: Times, out: &mut Vec<u8>) -> Result<(), NoMemory>
-    requires { 0 < view.share }
-    ensures { OnOk result (out.new.items ≡ out.old.items ++ sampling_html view times) }
+// Appends how a picture is sampled: its steps from row to row, its cells and its columns.
+#[tactic(auto, unfolding(crate::specs::Figures::sampled_html))]
+fn append_sampled(every: u64, width: u64, columns: u64, out: &mut Vec<u8>) -> Result<(), NoMemory>
+    ensures { OnOk result (out.new.items ≡ out.old.items ++ sampled_html every width columns) }
 {
-    out.extend_from_slice(SAMPLED)?;
-    append_every(times.every, out)?;
-    append_cells(view, out)
+    let (every, width, columns) = (Every(every), Grouped(width), Grouped(columns));
+    write!(
+        out,
+        "<p class='sampled'>A row {every}, {width} cells in {columns} columns</p>\n"
+    )
+    .map_err(|_| NoMemory)
 }
 
-// Appends how many cells a picture shows in how many columns.
-#[tactic(auto, unfolding(crate::specs::Figures::cells_html))]
-fn append_cells(view: View, out: &mut Vec<u8>) -> Result<(), NoMemory>
-    requires { 0 < view.share }
-    ensures { OnOk result (out.new.items ≡ out.old.items ++ cells_html view) }
-{
-    out.extend_from_slice(COMMA)?;
-    append_grouped(view.width, out)?;
-    out.extend_from_slice(CELLS)?;
-    append_grouped(view.columns(), out)?;
-    out.extend_from_slice(COLUMNS)
-}
+// How many steps there are from row to row.
+#[derive(Clone, Copy)]
+struct Every(u64);
 
-// Appends how many steps there are from row to row.
-#[tactic(auto, unfolding(crate::specs::Figures::every_text))]
-fn append_every(steps: u64, out: &mut Vec<u8>) -> Result<(), NoMemory>
-    ensures { OnOk result (out.new.items ≡ out.old.items ++ every_text steps) }
-{
-    if steps == 1 {
-        return out.extend_from_slice(b"each step");
+impl fmt::Display for Every {
+    ghost use Rattle.std.specs.Prelude.{Some};
+
+    ghost output = { λ every. Some (every_text every.0) };
+
+    #[tactic(auto, unfolding(crate::specs::Figures::every_text))]
+    fn fmt<W: fmt::Write>(&self, f: &mut fmt::Formatter<W>) -> fmt::Result {
+        if self.0 == 1 {
+            return f.write_str("each step");
+        }
+        write!(f, "every {} steps", Grouped(self.0))
     }
-    out.extend_from_slice(b"every ")?;
-    append_grouped(steps, out)?;
-    out.extend_from_slice(b" steps")
 }
 
 // The times that are drawn of a run of so many steps: each that many steps after the one before, and one more behind

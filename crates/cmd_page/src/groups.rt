@@ -1,36 +1,38 @@
 // Numbers with a comma before every three digits.
-ghost use Rattle.std.specs.Prelude.{◌≡◌, ◌∷◌, ◌++◌, OnOk};
-ghost use Rattle.cmd_page.specs.Groups.{comma_before, grouped, in_groups};
+ghost use Rattle.std.specs.Prelude.{◌≡◌};
+ghost use Rattle.cmd_page.specs.Groups.{comma_before};
 
 use itoa::Buffer;
-use kind_evidence::NoMemory;
+use std::fmt;
 
-// Appends a number with a comma before every three digits.
-pub(crate) fn append_grouped(n: u64, out: &mut Vec<u8>) -> Result<(), NoMemory>
-    ensures { OnOk result (out.new.items ≡ out.old.items ++ grouped n) }
-{
-    let mut buffer = Buffer::new();
-    append_groups(buffer.format(n).as_bytes(), out)
-}
+/// A number with a comma before every three digits.
+#[derive(Clone, Copy)]
+pub(crate) struct Grouped(pub(crate) u64);
 
-fn append_groups(digits: &[u8], out: &mut Vec<u8>) -> Result<(), NoMemory>
-    ensures { OnOk result (out.new.items ≡ out.old.items ++ in_groups digits.now) }
-{
-    let mut left = digits;
-    'groups: while let Some((digit, others)) = left.split_first() {
-        append_digit(*digit, others, out)?;
-        left = others;
+impl fmt::Display for Grouped {
+    ghost use Rattle.std.specs.Prelude.{Some};
+    ghost use Rattle.cmd_page.specs.Groups.{grouped};
+
+    ghost output = { λ number. Some (grouped number.0) };
+
+    fn fmt<W: fmt::Write>(&self, f: &mut fmt::Formatter<W>) -> fmt::Result {
+        let mut buffer = Buffer::new();
+        let mut left = buffer.format(self.0).as_bytes();
+        'digits: while let Some((digit, others)) = left.split_first() {
+            write!(f, "{}{}", char::from(*digit), comma_before(others))?;
+            left = others;
+        }
+        Ok(())
     }
-    Ok(())
 }
 
-// Appends a digit, and what stands before those that are left behind it.
-fn append_digit(digit: u8, left: &[u8], out: &mut Vec<u8>) -> Result<(), NoMemory>
-    ensures { OnOk result (out.new.items ≡ out.old.items ++ (digit ∷ comma_before left.now)) }
+// What stands before the digits that are left.
+fn comma_before(left: &[u8]) -> &'static str
+    ensures { result.now ≡ comma_before left.now }
 {
-    out.push(digit)?;
     if !left.is_empty() && left.len() % 3 == 0 {
-        out.push(b',')?;
+        ","
+    } else {
+        ""
     }
-    Ok(())
 }

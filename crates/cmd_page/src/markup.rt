@@ -9,21 +9,3 @@ pub(crate) const ROW_END: &[u8] = b"</td></tr>\n";
 
 // Between two cells.
 pub(crate) const NEXT_CELL: &[u8] = b"</td><td>";
-
-// What is code.
-pub(crate) const CODE: &[u8] = b"<code>";
-
-pub(crate) const CODE_END: &[u8] = b"</code>";
-
-// An item of a list.
-pub(crate) const ITEM: &[u8] = b"<li>";
-
-pub(crate) const ITEM_END: &[u8] = b"</li>\n";
-
-// A figure.
-pub(crate) const FIGURE: &[u8] = b"<figure>\n";
-
-pub(crate) const FIGURE_END: &[u8] = b"</figure>\n";
-
-// Behind the rows of a table.
-pub(crate) const TABLE_END: &[u8] = b"</table>\n";

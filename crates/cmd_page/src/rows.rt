@@ -1,14 +1,15 @@
 // Rows of a name and a value, and tables in a list.
 ghost use Rattle.std.specs.Prelude.{◌≡◌, ◌++◌, decimal, OnOk};
 ghost use Rattle.std.specs.Vec.Iter.{into_iter_items};
-ghost use Rattle.cmd_page.specs.Escaped.{code_html};
 ghost use Rattle.cmd_page.specs.Row.{count_html, item_html, items_html, most_html, row_html};
 
-use crate::groups::append_grouped;
-use crate::markup::{CELL, CODE, CODE_END, ITEM, ITEM_END, ROW, ROW_END};
+use crate::escape::Code;
+use crate::groups::Grouped;
+use crate::markup::{CELL, ROW, ROW_END};
 use itoa::Buffer;
 use kind_evidence::NoMemory;
-use machine_text::{TEXT_BYTES, Table};
+use machine_text::Table;
+use std::io::Write;
 use std::vec::IntoIter;
 
 // Appends the row of a number.
@@ -19,7 +20,7 @@ pub(crate) fn append_count(name: &[u8], n: u64, out: &mut Vec<u8>) -> Result<(),
     out.extend_from_slice(ROW)?;
     out.extend_from_slice(name)?;
     out.extend_from_slice(CELL)?;
-    append_grouped(n, out)?;
+    write!(out, "{}", Grouped(n)).map_err(|_| NoMemory)?;
     out.extend_from_slice(ROW_END)
 }
 
@@ -72,18 +73,5 @@ pub(crate) fn append_items(tables: IntoIter<Table>, out: &mut Vec<u8>) -> Result
 fn append_item(t: &Table, out: &mut Vec<u8>) -> Result<(), NoMemory>
     ensures { OnOk result (out.new.items ≡ out.old.items ++ item_html t.now) }
 {
-    out.extend_from_slice(ITEM)?;
-    append_code(t, out)?;
-    out.extend_from_slice(ITEM_END)
-}
-
-// Appends a table's text as code. It needs no escaping.
-#[tactic(auto, unfolding(crate::specs::Escaped::code_html))]
-pub(crate) fn append_code(t: &Table, out: &mut Vec<u8>) -> Result<(), NoMemory>
-    ensures { OnOk result (out.new.items ≡ out.old.items ++ code_html t.now) }
-{
-    let mut buf = [0; TEXT_BYTES];
-    out.extend_from_slice(CODE)?;
-    out.extend_from_slice(t.text(&mut buf))?;
-    out.extend_from_slice(CODE_END)
+    write!(out, "<li>{}</li>\n", Code(t)).map_err(|_| NoMemory)
 }

@@ -5,10 +5,8 @@ ghost use Rattle.cmd_lines.specs.Answer.{read_line};
 ghost use Rattle.cmd_lines.specs.Taken.{lent};
 ghost use Rattle.cmd_page.specs.Section.{IsShownOf, SaysSection, accepted_by, accepted_html, record_figure_html, line_html, refused_html, steps_drawn, why_html, words_html};
 
-use crate::escape::append_escaped;
+use crate::escape::{Code, append_escaped};
 use crate::figures::run_picture;
-use crate::markup::{FIGURE, FIGURE_END};
-use crate::rows::append_code;
 use crate::transitions::append_transitions;
 use cert::{Certificate, Record};
 use cmd_explain::{explain_line, why_of};
@@ -17,20 +15,13 @@ use cmd_options::Outcome;
 use kind_evidence::NoMemory;
 use machine_text::Table;
 use std::alloc::Global;
+use std::io::Write;
 
 // How many steps are drawn of a run that isn't said to halt.
 const SHOWN_STEPS: u64 = 1_000;
 
-// About what a section is named by, and about words.
-const NAME: &[u8] = b"<h2>";
-
-const NAME_END: &[u8] = b"</h2>\n";
-
-const REFUSED: &[u8] = b"<h2>Refused</h2>\n";
-
+// Before words.
 const WORDS: &[u8] = b"<p class='words'>";
-
-const WORDS_END: &[u8] = b"</p>\n";
 
 // Appends the section of a line, which is none where it was too long, with a newline.
 #[tactic(auto, unfolding(crate::specs::Section::section_html))]
@@ -116,9 +107,7 @@ fn append_parts(
 ) -> Result<(), NoMemory>
     ensures { OnOk result (out.new.items ≡ out.old.items ++ accepted_html t.now explained.now picture.now) }
 {
-    out.extend_from_slice(NAME)?;
-    append_code(t, out)?;
-    out.extend_from_slice(NAME_END)?;
+    write!(out, "<h2>{}</h2>\n", Code(t)).map_err(|_| NoMemory)?;
     append_words(explained, out)?;
     append_figure(t, picture, out)
 }
@@ -128,10 +117,10 @@ fn append_parts(
 fn append_figure(t: &Table, picture: &[u8], out: &mut Vec<u8>) -> Result<(), NoMemory>
     ensures { OnOk result (out.new.items ≡ out.old.items ++ record_figure_html t.now picture.now) }
 {
-    out.extend_from_slice(FIGURE)?;
+    out.extend_from_slice(b"<figure>\n")?;
     out.extend_from_slice(picture)?;
     append_transitions(t, out)?;
-    out.extend_from_slice(FIGURE_END)
+    out.extend_from_slice(b"</figure>\n")
 }
 
 // Appends why a line is refused.
@@ -153,7 +142,7 @@ fn append_reasons(why: &Option<String>, explained: &[u8], out: &mut Vec<u8>) -> 
     ensures { OnOk result (out.new.items ≡ out.old.items
         ++ refused_html explained.now (option_map string_bytes why.now)) }
 {
-    out.extend_from_slice(REFUSED)?;
+    out.extend_from_slice(b"<h2>Refused</h2>\n")?;
     append_words(explained, out)?;
     append_why(why, out)
 }
@@ -175,22 +164,17 @@ fn append_words(words: &[u8], out: &mut Vec<u8>) -> Result<(), NoMemory>
 {
     out.extend_from_slice(WORDS)?;
     append_escaped(words, out)?;
-    out.extend_from_slice(WORDS_END)
+    out.extend_from_slice(b"</p>\n")
 }
 
 // Appends the line itself, to be copied.
+#[tactic(auto, unfolding(crate::specs::Section::line_html))]
 fn append_line(line: Option<&[u8]>, out: &mut Vec<u8>) -> Result<(), NoMemory>
     ensures { OnOk result (out.new.items ≡ out.old.items ++ line_html (lent line.entry)) }
 {
-    match line {
-        Some(text) => append_text(text, out),
-        None => Ok(()),
-    }
-}
-
-fn append_text(text: &[u8], out: &mut Vec<u8>) -> Result<(), NoMemory>
-    ensures { OnOk result (out.new.items ≡ out.old.items ++ line_html (Some text.now)) }
-{
+    let Some(text) = line else {
+        return Ok(());
+    };
     out.extend_from_slice(b"<pre>")?;
     append_escaped(text, out)?;
     out.extend_from_slice(b"</pre>\n")

@@ -132,16 +132,16 @@ pub(crate) const ENTRIES: &[u8] = b"</table>\n\
 <table>\n";
 
 // Before the plot of the steps, up to its height.
-pub(crate) const PLOT: &[u8] = b"<section id='steps'>\n\
+pub(crate) const PLOT: &str = "<section id='steps'>\n\
 <h2>Halting tables by steps</h2>\n\
 <figure>\n\
 <svg class='plot' width='336' height='";
 
 // Between its height and its height.
-pub(crate) const PLOT_WIDTH: &[u8] = b"' viewBox='0 0 336 ";
+pub(crate) const PLOT_WIDTH: &str = "' viewBox='0 0 336 ";
 
 // The heads above its bars.
-pub(crate) const PLOT_HEADS: &[u8] = b"'>\n\
+pub(crate) const PLOT_HEADS: &str = "'>\n\
 <text class='from head' x='76' y='15'>Steps from</text><text class='head' x='84' y='15'>Tables</text>\n";
 
 // Behind its bars.

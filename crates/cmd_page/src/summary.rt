@@ -1,9 +1,9 @@
 // What a page says before it counts: its title, and how the board stands.
 ghost use Rattle.std.specs.Prelude.{◌≡◌, ◌++◌, OnOk};
-ghost use Rattle.cmd_page.specs.Page.{opening_html, start_html, parts_html, record_count, where_found, where_some, root_html, status_html, left_html, left_line_html, verdicts_html, greatest_html, tally_html, summary_html};
+ghost use Rattle.cmd_page.specs.Page.{opening_html, parts_html, record_count, where_found, where_some, root_html, status_html, left_html, verdicts_html, tally_html, summary_html};
 
-use crate::escape::append_escaped;
-use crate::rows::{append_code, append_count, append_greatest};
+use crate::escape::{Code, append_escaped};
+use crate::rows::{append_count, append_greatest};
 use crate::sentence::append_sentence;
 use crate::style::{
     HALTING_LINKS, HEADING, HOLDOUTS_LINK, LOOK, PAGE_START, PARTS, RECORD_LINKS, STATUS, policy,
@@ -13,30 +13,17 @@ use ledger::{Left, Status, Tally};
 use machine_text::Table;
 use std::io::Write;
 
-// About a root's text, and before the rows of a tally.
-const ROOT: &[u8] = b"<p>Root ";
-
-const ROOT_END: &[u8] = b"</p>\n<table>\n";
-
 // Appends the beginning of a page under a title, of any bytes, up to the end of its heading.
 #[tactic(auto, unfolding(crate::specs::Page::opening_html))]
 pub(crate) fn append_opening(title: &[u8], out: &mut Vec<u8>) -> Result<(), NoMemory>
     ensures { OnOk result (out.new.items ≡ out.old.items ++ opening_html title.now) }
 {
-    append_start(out)?;
+    out.extend_from_slice(PAGE_START)?;
+    out.extend_from_slice(policy())?;
+    out.extend_from_slice(LOOK)?;
     append_escaped(title, out)?;
     out.extend_from_slice(HEADING)?;
     append_escaped(title, out)
-}
-
-// Appends the beginning, up to the title.
-#[tactic(auto, unfolding(crate::specs::Page::start_html))]
-fn append_start(out: &mut Vec<u8>) -> Result<(), NoMemory>
-    ensures { OnOk result (out.new.items ≡ out.old.items ++ start_html) }
-{
-    out.extend_from_slice(PAGE_START)?;
-    out.extend_from_slice(policy())?;
-    out.extend_from_slice(LOOK)
 }
 
 // Appends the links to the parts that are there, and what stands before how the board stands.
@@ -79,6 +66,7 @@ fn append_where_found(greatest: Option<u64>, text: &[u8], out: &mut Vec<u8>) -> 
 }
 
 // Appends how a board stands, what its tree shows, and what wasn't kept of its ledger.
+#[tactic(auto, unfolding(crate::specs::Page::summary_html))]
 pub(crate) fn append_summary(
     root: &Table,
     status: Status,
@@ -88,46 +76,44 @@ pub(crate) fn append_summary(
 ) -> Result<(), NoMemory>
     ensures { OnOk result (out.new.items ≡ out.old.items ++ summary_html root.now status tally.now left.now) }
 {
-    out.extend_from_slice(status_words(status))?;
+    append_status(status, out)?;
     append_sentence(root, status, out)?;
     append_left(left, out)?;
     append_root(root, out)?;
     append_tally(tally, out)
 }
 
-// How a board stands, in words.
-fn status_words(status: Status) -> &'static [u8]
-    ensures { result.now ≡ status_html status }
+// Appends how a board stands, in words.
+#[tactic(auto, unfolding(crate::specs::Page::status_html))]
+fn append_status(status: Status, out: &mut Vec<u8>) -> Result<(), NoMemory>
+    ensures { OnOk result (out.new.items ≡ out.old.items ++ status_html status) }
 {
     match status {
-        Status::Working { .. } => b"<p><strong>Working.</strong> There are open tables.</p>\n",
-        Status::Holdouts { .. } => {
-            b"<p><strong>Holdouts.</strong> No table is open, and not all have a verdict.</p>\n"
-        }
-        Status::Complete { .. } => {
-            b"<p><strong>Complete.</strong> Each table of the tree has a verdict.</p>\n"
-        }
+        Status::Working { .. } => out.extend_from_slice(
+            b"<p><strong>Working.</strong> There are open tables.</p>\n",
+        ),
+        Status::Holdouts { .. } => out.extend_from_slice(
+            b"<p><strong>Holdouts.</strong> No table is open, and not all have a verdict.</p>\n",
+        ),
+        Status::Complete { .. } => out.extend_from_slice(
+            b"<p><strong>Complete.</strong> Each table of the tree has a verdict.</p>\n",
+        ),
     }
 }
 
 // Appends from which line on a ledger isn't kept, where there is one.
+#[tactic(auto, unfolding(crate::specs::Page::left_html))]
 fn append_left(left: &Left, out: &mut Vec<u8>) -> Result<(), NoMemory>
     ensures { OnOk result (out.new.items ≡ out.old.items ++ left_html left.now) }
 {
     match left {
         Left::Nothing => Ok(()),
-        Left::From { line, .. } => append_left_from(*line, out),
+        Left::From { line, .. } => write!(
+            out,
+            "<p class='left'>From line {line} on, the ledger isn't kept.</p>\n"
+        )
+        .map_err(|_| NoMemory),
     }
-}
-
-fn append_left_from(line: u64, out: &mut Vec<u8>) -> Result<(), NoMemory>
-    ensures { OnOk result (out.new.items ≡ out.old.items ++ left_line_html line) }
-{
-    write!(
-        out,
-        "<p class='left'>From line {line} on, the ledger isn't kept.</p>\n"
-    )
-    .map_err(|_| NoMemory)
 }
 
 // Appends the root, and what stands before the rows of a tally.
@@ -135,32 +121,26 @@ fn append_left_from(line: u64, out: &mut Vec<u8>) -> Result<(), NoMemory>
 fn append_root(root: &Table, out: &mut Vec<u8>) -> Result<(), NoMemory>
     ensures { OnOk result (out.new.items ≡ out.old.items ++ root_html root.now) }
 {
-    out.extend_from_slice(ROOT)?;
-    append_code(root, out)?;
-    out.extend_from_slice(ROOT_END)
+    write!(out, "<p>Root {}</p>\n<table>\n", Code(root)).map_err(|_| NoMemory)
 }
 
 // Appends the rows of a tally.
+#[tactic(auto, unfolding(crate::specs::Page::tally_html))]
 fn append_tally(tally: &Tally, out: &mut Vec<u8>) -> Result<(), NoMemory>
     ensures { OnOk result (out.new.items ≡ out.old.items ++ tally_html tally.now) }
 {
     append_verdicts(tally, out)?;
-    append_count(b"Holdouts", tally.holdouts, out)?;
-    append_count(b"Open", tally.open_count, out)?;
-    append_bests(tally, out)
+    append_greatest(b"Most steps", tally.best, out)?;
+    append_greatest(b"Most ones", tally.ones, out)
 }
 
+#[tactic(auto, unfolding(crate::specs::Page::verdicts_html))]
 fn append_verdicts(tally: &Tally, out: &mut Vec<u8>) -> Result<(), NoMemory>
     ensures { OnOk result (out.new.items ≡ out.old.items ++ verdicts_html tally.now) }
 {
     append_count(b"Tables", tally.nodes, out)?;
     append_count(b"Halting", tally.halting, out)?;
-    append_count(b"Never halting", tally.never, out)
-}
-
-fn append_bests(tally: &Tally, out: &mut Vec<u8>) -> Result<(), NoMemory>
-    ensures { OnOk result (out.new.items ≡ out.old.items ++ greatest_html tally.now) }
-{
-    append_greatest(b"Most steps", tally.best, out)?;
-    append_greatest(b"Most ones", tally.ones, out)
+    append_count(b"Never halting", tally.never, out)?;
+    append_count(b"Holdouts", tally.holdouts, out)?;
+    append_count(b"Open", tally.open_count, out)
 }

@@ -4,7 +4,7 @@ ghost use Rattle.machine_text.specs.Limits.{state_limit};
 ghost use Rattle.machine_text.specs.Text.{direction_byte, entry_text, symbol_byte};
 ghost use Rattle.cmd_page.specs.Transitions.{state_html, states_html, transitions_html};
 
-use crate::markup::{CELL, NEXT_CELL, ROW, ROW_END, TABLE_END};
+use crate::markup::{CELL, NEXT_CELL, ROW, ROW_END};
 use crate::style::SYMBOLS;
 use kind_evidence::NoMemory;
 use machine_text::{Dir, Entry, State, Sym, Table};
@@ -16,7 +16,7 @@ pub(crate) fn append_transitions(t: &Table, out: &mut Vec<u8>) -> Result<(), NoM
 {
     out.extend_from_slice(SYMBOLS)?;
     append_states(t, out)?;
-    out.extend_from_slice(TABLE_END)
+    out.extend_from_slice(b"</table>\n")
 }
 
 // Appends the row of each state.
@@ -52,17 +52,10 @@ fn append_entry(e: Option<Entry>, out: &mut Vec<u8>) -> Result<(), NoMemory>
 {
     match e {
         None => out.extend_from_slice(b"---"),
-        Some(e) => append_filled(e, out),
+        Some(e) => {
+            out.extend_from_slice(&[symbol_byte(e.write), direction_byte(e.dir), b'A' + e.next.0])
+        }
     }
-}
-
-// Appends what is written, where the head goes, and the next state.
-fn append_filled(e: Entry, out: &mut Vec<u8>) -> Result<(), NoMemory>
-    requires { e.next.0 < state_limit }
-    ensures { OnOk result (out.new.items ≡ out.old.items ++ entry_text (Some e)) }
-{
-    let bytes = [symbol_byte(e.write), direction_byte(e.dir), b'A' + e.next.0];
-    out.extend_from_slice(&bytes)
 }
 
 fn symbol_byte(s: Sym) -> u8

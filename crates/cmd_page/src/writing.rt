@@ -3,7 +3,7 @@ ghost use Rattle.std.specs.Prelude.{OnOk};
 ghost use Rattle.std.specs.Vec.Iter.{into_iter_items};
 ghost use Rattle.std.specs.Io.KnownBytes.{Appends};
 ghost use Rattle.cmd_ledgers.specs.Passing.{Passes};
-ghost use Rattle.cmd_page.specs.Page.{ending_html, holdout_html, holdouts_html, last_cell_html, link_html};
+ghost use Rattle.cmd_page.specs.Page.{ending_html, holdout_html, holdout_row, holdouts_html};
 ghost use Rattle.cmd_page.specs.inside.{bytes_of_page};
 
 use crate::entries::entry_count;
@@ -63,34 +63,33 @@ fn pass_holdout<W: Write>(t: &Table, piece: &mut Vec<u8>, answers: &mut W) -> io
     ensures { OnOk result (Passes (W.contents answers.old) piece.old.items (W.contents answers.new) piece.new.items
         (holdout_html t.now)) }
 {
-    let mut buf = [0; TEXT_BYTES];
-    let text = t.text(&mut buf);
+    let mut text = [0; TEXT_BYTES];
+    let mut entries = Buffer::new();
+    pass_row(
+        t.text(&mut text),
+        entries.format(entry_count(t)).as_bytes(),
+        piece,
+        answers,
+    )
+}
+
+// Passes on a table's text, as a link to what others know of it, and a number of entries.
+fn pass_row<W: Write>(
+    text: &[u8],
+    entries: &[u8],
+    piece: &mut Vec<u8>,
+    answers: &mut W,
+) -> io::Result<()>
+    ensures { OnOk result (Passes (W.contents answers.old) piece.old.items (W.contents answers.new) piece.new.items
+        (holdout_row text.now entries.now)) }
+{
     pass(b"<tr id='", piece, answers)?;
     pass(text, piece, answers)?;
-    pass(b"'>", piece, answers)?;
-    pass_link(text, piece, answers)?;
-    pass_entries(entry_count(t), piece, answers)
-}
-
-// Passes on a table's text as a link to what others know of it.
-fn pass_link<W: Write>(text: &[u8], piece: &mut Vec<u8>, answers: &mut W) -> io::Result<()>
-    ensures { OnOk result (Passes (W.contents answers.old) piece.old.items (W.contents answers.new) piece.new.items
-        (link_html text.now)) }
-{
-    pass(b"<td><a href='https://bbchallenge.org/", piece, answers)?;
+    pass(b"'><td><a href='https://bbchallenge.org/", piece, answers)?;
     pass(text, piece, answers)?;
     pass(b"'>", piece, answers)?;
     pass(text, piece, answers)?;
-    pass(b"</a></td>", piece, answers)
-}
-
-// Passes on a number of entries, and the end of the row.
-fn pass_entries<W: Write>(entries: u8, piece: &mut Vec<u8>, answers: &mut W) -> io::Result<()>
-    ensures { OnOk result (Passes (W.contents answers.old) piece.old.items (W.contents answers.new) piece.new.items
-        (last_cell_html entries)) }
-{
-    let mut buffer = Buffer::new();
-    pass(b"<td>", piece, answers)?;
-    pass(buffer.format(entries).as_bytes(), piece, answers)?;
+    pass(b"</a></td><td>", piece, answers)?;
+    pass(entries, piece, answers)?;
     pass(b"</td></tr>\n", piece, answers)
 }

@@ -12,7 +12,7 @@ stress/cluster.py [--states N] [--seed S] [--token] [WAY..]: with --token coordi
     hostile   random bytes, half frames, lines without end, nothing, frames with others' ids and leases, frames without reading
     strangers each kind of peer of stress/strangers.py alone (--kinds NAME,NAME for some), beside two processes of workers: the run
               has to end in at most twice the time without it and 15 seconds (--slack; the coordinator waits for 5 at the end, and
-              a table that is held is free after 7), with at most 1.3 times the memory
+              a table that is held is free after 7), with at most 1.3 times the memory and 8 megabytes
     cable     two hosts in network namespaces whose link is down for SECONDS (--down, 90 unless said), as root alone
 
 all but `cable` where none is named. Prints a line for each, and ends with 1 at the first that goes wrong."""
@@ -326,7 +326,7 @@ def with_strangers(states, expected, folder, chance, names, slack):
     for name in names or kinds:
         seconds, memory = beside(states, expected, folder, kinds[name], random.Random(chance.random()))
         print(f"    {name}: {seconds:.1f} s, {memory / 1024:.0f} MB", flush=True)
-        if seconds > 2 * alone + slack or memory > 1.3 * least + 4096:
+        if seconds > 2 * alone + slack or memory > 1.3 * least + 8_192:
             print(f"strangers: beside {name} it takes too much")
             sys.exit(1)
     return f"{len(names or kinds)} kinds"

@@ -34,9 +34,11 @@ def measured(states, processes, ids, way, folder):
     address = os.path.join(folder, "socket") if way == "socket" else str(free_port())
     ledger = ["--ledger", os.path.join(folder, "ledger")] if way == "ledger" else []
     report = os.path.join(folder, "report")
-    start = time.time()
     with open(report, "wb") as out:
         coordinator = subprocess.Popen([PROGRAM, "coord", states, "--listen", address, *ledger], stdout=out, stderr=subprocess.DEVNULL)
+    # A worker that comes before the coordinator listens tries again after a second.
+    time.sleep(0.5)
+    start = time.time()
     workers = [subprocess.Popen([PROGRAM, "work", "--connect", address, "--id", str(64 * (place + 1)), "--ids", str(ids), "--hard"],
                                 stderr=subprocess.DEVNULL) for place in range(processes)]
     own = ended(coordinator)

@@ -67,6 +67,7 @@ abbrev pub IsPictureIf : Bool → Packed → ℕ → List ℕ → Type 0
 IsPictureIf true t best svg = IsChampionPicture t best svg
 IsPictureIf false t best svg = svg ≡ []
 
+-- a caption, and the end of its figure
 unfoldable pub caption_html : Packed → ℕ → List ℕ
 caption_html t best = concat (codes "<figcaption>" ∷ code_html t ∷ codes "<br>" ∷ grouped best
     ∷ codes " steps</figcaption>\n</figure>\n" ∷ [])

@@ -63,13 +63,14 @@ left_html Nothing = []
 left_html (From line kept why) =
     concat (codes "<p class='left'>From line " ∷ decimal line ∷ codes " on, the ledger isn't kept.</p>\n" ∷ [])
 
-unfoldable pub verdicts_html : Tally → List ℕ
-verdicts_html tally = concat (count_html (codes "Tables") tally.nodes ∷ count_html (codes "Halting") tally.halting
+-- how many tables there are, with each verdict and with none
+unfoldable pub counts_html : Tally → List ℕ
+counts_html tally = concat (count_html (codes "Tables") tally.nodes ∷ count_html (codes "Halting") tally.halting
     ∷ count_html (codes "Never halting") tally.never ∷ count_html (codes "Holdouts") tally.holdouts
     ∷ count_html (codes "Open") tally.open_count ∷ [])
 
 unfoldable pub tally_html : Tally → List ℕ
-tally_html tally = concat (verdicts_html tally ∷ most_html (codes "Most steps") tally.best
+tally_html tally = concat (counts_html tally ∷ most_html (codes "Most steps") tally.best
     ∷ most_html (codes "Most ones") tally.ones ∷ [])
 
 unfoldable pub summary_html : Packed → Status → Tally → Left → List ℕ

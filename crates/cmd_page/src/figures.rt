@@ -7,7 +7,7 @@ ghost use Rattle.cmd_page.specs.Figures.{AreFiguresOf, IsChampionPicture, IsPict
 use crate::escape::Code;
 use crate::groups::Grouped;
 use crate::transitions::append_transitions;
-use cmd_show::{Size, Times, View, placement, svg};
+use cmd_show::{Size, Times, placement, svg};
 use kind_evidence::NoMemory;
 use ledger::Champions;
 use machine_text::Table;
@@ -62,6 +62,7 @@ fn append_figure(t: &Table, best: u64, picture: &[u8], out: &mut Vec<u8>) -> Res
     append_caption(t, best, out)
 }
 
+// Appends a caption, and the end of its figure.
 #[tactic(auto, unfolding(crate::specs::Figures::caption_html))]
 fn append_caption(t: &Table, best: u64, out: &mut Vec<u8>) -> Result<(), NoMemory>
     ensures { OnOk result (out.new.items ≡ out.old.items ++ caption_html t.now best) }

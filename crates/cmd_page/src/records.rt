@@ -1,6 +1,5 @@
 // The page of a stream of records.
-ghost use Rattle.std.specs.Prelude.{◌≡◌, ◌⊎◌, ◌++◌, IfErr, IfOk, OnOk};
-ghost use Rattle.cmd_page.specs.Heading.{origin_html};
+ghost use Rattle.std.specs.Prelude.{◌≡◌, ◌⊎◌, IfErr, IfOk};
 ghost use Rattle.cmd_page.specs.Records.{WritesRecords, records_head_html, records_heading, records_tail_html};
 
 use crate::heading::{Heading, LedgerSum, Maker, append_origin};

@@ -1,6 +1,6 @@
 // What a page says before it counts: its title, and how the board stands.
 ghost use Rattle.std.specs.Prelude.{◌≡◌, ◌++◌, OnOk};
-ghost use Rattle.cmd_page.specs.Page.{opening_html, parts_html, record_count, where_found, where_some, root_html, status_html, left_html, verdicts_html, tally_html, summary_html};
+ghost use Rattle.cmd_page.specs.Page.{opening_html, parts_html, record_count, where_found, where_some, root_html, status_html, left_html, counts_html, tally_html, summary_html};
 
 use crate::escape::{Code, append_escaped};
 use crate::rows::{append_count, append_greatest};
@@ -129,14 +129,15 @@ fn append_root(root: &Table, out: &mut Vec<u8>) -> Result<(), NoMemory>
 fn append_tally(tally: &Tally, out: &mut Vec<u8>) -> Result<(), NoMemory>
     ensures { OnOk result (out.new.items ≡ out.old.items ++ tally_html tally.now) }
 {
-    append_verdicts(tally, out)?;
+    append_counts(tally, out)?;
     append_greatest(b"Most steps", tally.best, out)?;
     append_greatest(b"Most ones", tally.ones, out)
 }
 
-#[tactic(auto, unfolding(crate::specs::Page::verdicts_html))]
-fn append_verdicts(tally: &Tally, out: &mut Vec<u8>) -> Result<(), NoMemory>
-    ensures { OnOk result (out.new.items ≡ out.old.items ++ verdicts_html tally.now) }
+// Appends how many tables there are, with each verdict and with none.
+#[tactic(auto, unfolding(crate::specs::Page::counts_html))]
+fn append_counts(tally: &Tally, out: &mut Vec<u8>) -> Result<(), NoMemory>
+    ensures { OnOk result (out.new.items ≡ out.old.items ++ counts_html tally.now) }
 {
     append_count(b"Tables", tally.nodes, out)?;
     append_count(b"Halting", tally.halting, out)?;

@@ -20,8 +20,9 @@ use std::alloc::Global;
 use std::io::{self, Read, Write};
 use wire::{LedgerOut, Node, TurnFault};
 
-// How many bytes of a worker are taken at once.
-const PIECE_BYTES: usize = 65_536;
+// How many bytes of a peer are taken at once: some more than an honest one has ready, so that one who sends without a pause
+// gets no larger share of the coordinator.
+const PIECE_BYTES: usize = 2_048;
 
 // How long a coordinator whose tree is settled waits for workers to ask, so that each is told to stop, in seconds.
 const LINGER_SECONDS: u64 = 5;

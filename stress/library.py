@@ -207,7 +207,10 @@ def meanings(busybeaver, lines, due):
     for line in run.stdout.splitlines():
         told = json.loads(line)
         wanted[told["code"]] = told["meaning"]
-    numbers = [*range(101, 106), *range(201, 204), *range(301, 306), *range(402, 406)]
+    # No record is known that gets it.
+    why = open(os.path.join(TOP, "crates", "cmd_explain", "src", "why.rt"), encoding="utf-8").read()
+    wanted[204] = re.search(r'Refused::NotSeen => "(.*?)"', why)[1]
+    numbers = [*range(101, 106), *range(201, 205), *range(301, 306), *range(402, 406)]
     if sorted(wanted) != numbers:
         raise Differs(f"words are known of {sorted(wanted)}, and not of {numbers}")
     other = busybeaver.meaning(0)

@@ -76,7 +76,7 @@ struct bb_answer {
     uint64_t ones;       /* BB_HALTS: the ones on its tape then, whether the record says them or not */
     uint64_t place;      /* how many bytes stand before the fault of the table's text, where has_place is 1 */
     uint32_t outcome;    /* BB_HALTS, BB_NEVER, BB_UNDECIDED, BB_REFUSED or BB_NO_MEMORY */
-    uint32_t code;       /* BB_REFUSED: the refusal's number, 201 to 203 or 301 to 305 */
+    uint32_t code;       /* BB_REFUSED: the refusal's number, 201 to 204 or 301 to 305 */
     uint32_t table_code; /* where code is 301: the number of the fault of the table's text, 101 to 105 */
     uint32_t has_place;  /* whether that fault has a place */
     uint32_t has_ones;   /* whether the record says the ones itself */
@@ -126,8 +126,8 @@ const char *bb_strerror(uint32_t code);
  * BB_HALTS: the record's table halts from the blank tape in so many steps, and leaves so many ones.
  * BB_NEVER: the record's table never halts from the blank tape.
  * BB_REFUSED with 201: the certificate doesn't stand; with 202 it asks for more than the limit of its kind, with 203 its
- * check gets too large; neither of these says anything of the table.
- * BB_NO_MEMORY: only for a kind whose check takes memory.
+ * check gets too large, with 204 (Skelet 1 alone) its run isn't seen to repeat; none of these three says anything of the table.
+ * BB_NO_MEMORY: only for a record whose check takes memory.
  */
 void bb_check(const unsigned char *text, size_t length, struct bb_answer *out);
 

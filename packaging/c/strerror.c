@@ -15,6 +15,7 @@ const char *bb_strerror(unsigned int code) {
     case 201: return "it doesn't hold for the table";
     case 202: return "it asks for more than the limit of its kind";
     case 203: return "it asks for more paths, or larger numbers, than its check keeps";
+    case 204: return "its run isn't seen to repeat";
     case 301: return "there is no table before the first space";
     case 302: return "there is no kind of record with these fields";
     case 303: return "a field is no number or no side";

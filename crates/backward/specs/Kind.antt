@@ -33,7 +33,8 @@ backward_kind = record {
     within = e.depth ≤ depth_limit;
     wide = λ p. IsTooWide p e.depth;
     stands = λ p. IsBackward p.states (entry_of p) e.depth;
-    takes_memory = e.depth ≤ depth_limit;
+    unseen = λ p. ⊥;
+    takes_memory = λ p. e.depth ≤ depth_limit;
   };
   law = λ e p table stands. backward_never p.states (entry_of p) e.depth (table_machine p table) stands;
 }

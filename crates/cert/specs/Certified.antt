@@ -6,8 +6,8 @@ use Rattle.law_turing.specs.Halting.{HaltsOn}
 use Rattle.kind_evidence.specs.declared.verdicts.Ending.{Ending}
 use Rattle.kind_evidence.specs.declared.verdicts.Ending.TheVariants.{Halts, Never}
 use Rattle.kind_evidence.specs.declared.verdicts.Refused.{Refused}
-use Rattle.kind_evidence.specs.declared.verdicts.Refused.TheVariants.{Fails, TooLong, TooWide, NoMemory}
-use Rattle.cert.specs.Claim.{Recorded, IsWithin, IsWide, Stands, ending_by, shown_by}
+use Rattle.kind_evidence.specs.declared.verdicts.Refused.TheVariants.{Fails, TooLong, TooWide, NotSeen, NoMemory}
+use Rattle.cert.specs.Claim.{Recorded, IsWithin, IsWide, MayGoUnseen, Stands, ending_by, shown_by}
 use Rattle.cert.specs.declared.judgement.Judged.{Judged}
 
 -- what is claimed stands, within the limits; where nothing is claimed nothing has to
@@ -16,12 +16,22 @@ pub record IsCertified (r : Recorded) : Type 0 where
   pub narrow : IsWide r.claim r.table → ⊥
   pub stands : Stands r.claim r.table
 
--- why a claim is refused: it doesn't stand, it asks for more than its limit, or for more paths than may be kept
+-- why a claim is refused: it doesn't stand, it asks for more than its limit, or for more paths than may be kept; or its
+-- check ended without having seen whether it stands
 abbrev pub IsRefusedBy : Refused → Recorded → Type 0
 IsRefusedBy Fails r = IsWithin r.claim × (IsWide r.claim r.table → ⊥) × (Stands r.claim r.table → ⊥)
 IsRefusedBy TooLong r = IsWithin r.claim → ⊥
 IsRefusedBy TooWide r = IsWithin r.claim × IsWide r.claim r.table
+IsRefusedBy NotSeen r = MayGoUnseen r.claim r.table
 IsRefusedBy NoMemory r = ⊥
+
+-- a refusal that says something of the claim: it isn't certified
+abbrev pub IsUnfitBy : Refused → Recorded → Type 0
+IsUnfitBy Fails r = IsRefusedBy Fails r
+IsUnfitBy TooLong r = IsRefusedBy TooLong r
+IsUnfitBy TooWide r = IsRefusedBy TooWide r
+IsUnfitBy NotSeen r = ⊥
+IsUnfitBy NoMemory r = ⊥
 
 -- the table halts in so many steps, on this pair of one of its states and a symbol
 pub record HaltsOnPair (t : Packed) (k : ℕ) (pair : Pair) : Type 0 where

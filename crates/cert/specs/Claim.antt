@@ -32,7 +32,8 @@ meaning NoClaim = record {
   within = Unit {0};
   wide = λ p. ⊥;
   stands = λ p. Unit {0};
-  takes_memory = ⊥;
+  unseen = λ p. ⊥;
+  takes_memory = λ p. ⊥;
 }
 
 -- how the run ends by it; nothing where nothing is claimed
@@ -68,5 +69,9 @@ IsWide c p = (meaning c).wide p
 abbrev pub Stands : Claim → Packed → Type 0
 Stands c p = (meaning c).stands p
 
-abbrev pub TakesMemory : Claim → Type 0
-TakesMemory c = (meaning c).takes_memory
+-- its check of the table may end without having seen whether it is so
+abbrev pub MayGoUnseen : Claim → Packed → Type 0
+MayGoUnseen c p = (meaning c).unseen p
+
+abbrev pub TakesMemory : Claim → Packed → Type 0
+TakesMemory c p = (meaning c).takes_memory p

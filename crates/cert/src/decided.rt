@@ -90,7 +90,7 @@ fn judged_of(alloc: Global, r: &OwnedRecord) -> Result<Option<Judged>, NoMemory>
     };
     match judge_on(alloc, &record) {
         Ok(judged) => Ok(judged.verdict.is_some().then_some(judged)),
-        Err(Refused::NoMemory) => Err(NoMemory),
+        Err(Refused::NotSeen | Refused::NoMemory) => Err(NoMemory),
         Err(_) => Ok(None),
     }
 }

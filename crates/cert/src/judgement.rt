@@ -21,12 +21,13 @@ pub struct Judged {
 
 /// Checks a record's certificate: the verdict that it shows of the table, or none where nothing is claimed.
 /// Neither that nor the check of position sets or of automata of few states takes memory. `Fails` where it doesn't
-/// stand, `TooLong` and `TooWide` where it asks for more than the limits of its kind, `NoMemory` where memory is refused.
+/// stand, `TooLong` and `TooWide` where it asks for more than the limits of its kind, `NotSeen` where its check ends without an answer, `NoMemory` where
+/// memory is refused.
 pub fn judge(alloc: Global, r: &Record) -> Result<Option<Verdict>, Refused>
     ensures ok { IfOk result (λ v. IsCertified (recorded r.now)
         × (v ≡ shown_by (claim_of r.now.certificate) r.now.table)) }
     ensures refused { IfErr result (λ f. f ≢ Refused.NoMemory → IsRefusedBy f (recorded r.now)) }
-    ensures memory { IfErr result (λ f. f ≡ Refused.NoMemory → TakesMemory (claim_of r.now.certificate)) }
+    ensures memory { IfErr result (λ f. f ≡ Refused.NoMemory → TakesMemory (claim_of r.now.certificate) r.now.table) }
     ensures undecided { claim_of r.now.certificate ≡ NoClaim → result ≡ Ok None }
 {
     match judge_on(alloc, r) {
@@ -43,7 +44,7 @@ pub fn judge_on(alloc: Global, r: &Record) -> Result<Judged, Refused>
     ensures pair { IfOk result (λ judged. IsPairOf (ending_by (claim_of r.now.certificate)) r.now.table
         judged.halts_on) }
     ensures refused { IfErr result (λ f. f ≢ Refused.NoMemory → IsRefusedBy f (recorded r.now)) }
-    ensures memory { IfErr result (λ f. f ≡ Refused.NoMemory → TakesMemory (claim_of r.now.certificate)) }
+    ensures memory { IfErr result (λ f. f ≡ Refused.NoMemory → TakesMemory (claim_of r.now.certificate) r.now.table) }
     ensures undecided { claim_of r.now.certificate ≡ NoClaim
         → result ≡ Ok (record { verdict = None; halts_on = None }) }
 {
@@ -85,7 +86,8 @@ fn checked<E: Evidence>(evidence: &E, alloc: Global, t: &Table) -> Result<Judged
     ensures long { result ≡ Err Refused.TooLong → (E.meaning evidence.now).within → ⊥ }
     ensures wide { result ≡ Err Refused.TooWide → (E.meaning evidence.now).within
         × (E.meaning evidence.now).wide t.now }
-    ensures memory { result ≡ Err Refused.NoMemory → (E.meaning evidence.now).takes_memory }
+    ensures unseen { result ≡ Err Refused.NotSeen → (E.meaning evidence.now).unseen t.now }
+    ensures memory { result ≡ Err Refused.NoMemory → (E.meaning evidence.now).takes_memory t.now }
 {
     let verdict = evidence.check(alloc, t)?;
     Ok(Judged {

@@ -47,7 +47,8 @@ pub(crate) fn work<S: Disk + Clock + Network, R: Read, W: Write, E: Write>(
                 let _ = writeln!(faults, "connecting with {address}");
             }
             let to = coordinator_at(address, &token);
-            work_at(alloc, &mut pool, system, to, working.tries)
+            let mut caller = system.caller();
+            work_at(alloc, &mut pool, system, &mut caller, to, working.tries)
         }
         None => work_between(alloc, &mut pool, input, answers, system),
     }

@@ -5,7 +5,7 @@ use Rattle.law_turing.specs.Halting.{HaltsAt}
 use Rattle.law_turing.specs.Score.{HaltsWith}
 use Rattle.run.specs.Limits.{halt_step_limit}
 use Rattle.kind_evidence.specs.declared.verdicts.Refused.{Refused}
-use Rattle.kind_evidence.specs.declared.verdicts.Refused.TheVariants.{Fails, TooLong, TooWide, NoMemory}
+use Rattle.kind_evidence.specs.declared.verdicts.Refused.TheVariants.{Fails, TooLong, TooWide, NotSeen, NoMemory}
 use Rattle.cert.specs.Certified.{IsCertified, IsRefusedBy}
 use Rattle.cert.specs.Claim.{Claim, HaltsClaim, NeverClaim, NoClaim, Recorded}
 use Rattle.cert.specs.Fault.{record_fault_text}
@@ -16,6 +16,7 @@ abbrev pub refused_words : Refused → List ℕ
 refused_words Fails = codes "it doesn't hold for the table"
 refused_words TooLong = codes "it asks for more than the limit of its kind"
 refused_words TooWide = codes "it asks for more paths, or larger numbers, than its check keeps"
+refused_words NotSeen = codes "its run isn't seen to repeat"
 refused_words NoMemory = codes "memory is refused"
 
 -- what is right of a table that halts
@@ -30,7 +31,11 @@ pub record TellsRight (p : Packed) (words : List ℕ) : Type 0 where
   pub halts : HaltsWith (entry_of p) steps ones
   pub is : words ≡ right_words steps ones
 
--- a record is refused, and these words say for what
+-- a record is refused, for whatever reason
+abbrev pub IsTurnedDown : Recorded → Type 0
+IsTurnedDown r = (why : Refused) × IsRefusedBy why r
+
+-- and these words say for what
 pub record TellsRefused (r : Recorded) (words : List ℕ) : Type 0 where
   pub why : Refused
   pub refused : IsRefusedBy why r
@@ -48,7 +53,7 @@ abbrev pub TellsWhy : Result Recorded RecordFault → Option (List ℕ) → Type
 TellsWhy (Err f) words = words ≡ Some (record_fault_text f)
 TellsWhy (Ok r) None = IsCertified r
 TellsWhy (Ok r) (Some words) =
-    TellsRight r.table words ⊎ (TellsRefused r words × (HasRight r.claim r.table → ⊥))
+    (IsTurnedDown r × TellsRight r.table words) ⊎ (TellsRefused r words × (HasRight r.claim r.table → ⊥))
 
 -- a line on standard error, by the number of what it is said of
 unfoldable pub why_line : ℕ → List ℕ → List ℕ

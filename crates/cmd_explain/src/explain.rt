@@ -2,6 +2,7 @@
 ghost use Rattle.std.specs.Prelude.{◌≡◌, ◌⊎◌, ◌∷◌, [], ◌++◌, List, ℕ, IfErr, IfOk};
 ghost use Rattle.cert.specs.Kinds.{recorded};
 ghost use Rattle.cmd_lines.specs.Answer.{AnswersRecord};
+ghost use Rattle.cmd_lines.specs.First.{AnswersFirst, EndsSaying, WritesFirst};
 ghost use Rattle.cmd_lines.specs.Stream.{AnswersStream};
 ghost use Rattle.cmd_lines.specs.Taken.{lent};
 ghost use Rattle.cmd_explain.specs.Explained.{SaysExplained, TellsRecord};
@@ -15,18 +16,19 @@ use std::alloc::Global;
 use std::io::{Read, Write};
 
 /// Reads a record a line and prints the answer of `bb check` to it, then what its check has shown, in words, and then an
-/// empty line; of a record that is refused the answer alone. A last line without newline is read too. What a failed
-/// stream or refused memory ends is said on `faults`; else what was printed is what is said to the lines of the input, in
-/// their order, and what the words say is so.
+/// empty line; of a record that is refused the answer alone. A last line without newline is read too. What was printed is
+/// what is said to the lines of the input, in their order, and what the words say is so. What a failed stream or refused
+/// memory ends is said on `faults`: then it is what is said to the first lines, in full where memory was refused.
 pub fn cmd_explain<R: Read, W: Write, E: Write>(
     alloc: Global,
     input: &mut R,
     answers: &mut W,
     faults: &mut E,
 ) -> Outcome
-    ensures { AnswersStream SaysExplained (R.remaining input.old) (R.remaining input.new) (W.contents answers.old)
-        (W.contents answers.new) result
-        ⊎ (result ≡ Outcome.NoMemory) ⊎ (result ≡ Outcome.Failed) }
+    ensures { EndsSaying (AnswersStream SaysExplained (R.remaining input.old) (R.remaining input.new)
+        (W.contents answers.old) (W.contents answers.new))
+        (AnswersFirst SaysExplained (R.remaining input.old) (R.remaining input.new)) (W.contents answers.old)
+        (W.contents answers.new) result }
 {
     told(explain_for(alloc, input, answers), faults)
 }
@@ -39,6 +41,8 @@ fn explain_for<R: Read, W: Write>(
 ) -> Result<Outcome, Ended>
     ensures ok { IfOk result (AnswersStream SaysExplained (R.remaining input.old) (R.remaining input.new)
         (W.contents answers.old) (W.contents answers.new)) }
+    ensures first { IfErr result (WritesFirst (AnswersFirst SaysExplained (R.remaining input.old)
+        (R.remaining input.new)) (W.contents answers.old) (W.contents answers.new)) }
     ensures err { IfErr result (λ e. (e ≡ Ended.NoMemory) ⊎ (e ≡ Ended.Stream)) }
 {
     let (outcome, _) = say_lines(alloc, Explainer { alloc }, PIECE_BYTES, input, answers)?;

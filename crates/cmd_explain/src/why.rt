@@ -7,6 +7,7 @@ ghost use Rattle.run.specs.Limits.{halt_step_limit};
 ghost use Rattle.cert.specs.Certified.{IsRefusedBy};
 ghost use Rattle.cert.specs.Kinds.{claim_of, recorded};
 ghost use Rattle.cmd_lines.specs.Answer.{SaysOfRecord, read_line};
+ghost use Rattle.cmd_lines.specs.First.{AnswersFirst, WritesFirst};
 ghost use Rattle.cmd_lines.specs.Stream.{AnswersStream};
 ghost use Rattle.cmd_lines.specs.Taken.{lent};
 ghost use Rattle.cmd_explain.specs.Why.{HasRight, TellsRight, TellsWhy, refused_words, right_words, why_line};
@@ -22,7 +23,8 @@ use std::alloc::Global;
 use std::io::{Read, Write};
 
 /// Checks as `cmd_check` of `cmd_lines` does, and says on `faults` of each record that is refused why it is, on a line with
-/// the number of its own (`why_of`).
+/// the number of its own (`why_of`). Where that ends early, what was printed is the answers to the first lines, in full
+/// unless a stream failed.
 pub fn check_why_for<R: Read, W: Write, E: Write>(
     alloc: Global,
     input: &mut R,
@@ -31,6 +33,8 @@ pub fn check_why_for<R: Read, W: Write, E: Write>(
 ) -> Result<Outcome, Ended>
     ensures ok { IfOk result (AnswersStream SaysOfRecord (R.remaining input.old) (R.remaining input.new)
         (W.contents answers.old) (W.contents answers.new)) }
+    ensures first { IfErr result (WritesFirst (AnswersFirst SaysOfRecord (R.remaining input.old)
+        (R.remaining input.new)) (W.contents answers.old) (W.contents answers.new)) }
     ensures err { IfErr result (λ e. (e ≡ Ended.NoMemory) ⊎ (e ≡ Ended.Stream)) }
 {
     let checker = WhyChecker {
@@ -179,6 +183,7 @@ fn refused_words(alloc: Global, why: Refused) -> Result<String, NoMemory>
         Refused::Fails => "it doesn't hold for the table",
         Refused::TooLong => "it asks for more than the limit of its kind",
         Refused::TooWide => "it asks for more paths, or larger numbers, than its check keeps",
+        Refused::NotSeen => "its run isn't seen to repeat",
         Refused::NoMemory => "memory is refused",
     };
     String::from_str(alloc, words)

@@ -2,8 +2,11 @@
 use Rattle.std.proofs.Common.{◌≡◌, ℕ, List, [], ◌∷◌, ◌++◌, Option, ◌∙◌, ap, append_assoc, subst}
 use Rattle.text.specs.Lines.{BoundedLine, bounded_line}
 use Rattle.cmd_options.specs.declared.outcome.Outcome.{Outcome}
+use Rattle.cmd_options.specs.declared.ended.Ended.{Ended}
+use Rattle.cmd_lines.proofs.Early.{said_so}
+use Rattle.cmd_lines.specs.First.{IsSaidToFirst, WritesFirst}
 use Rattle.cmd_lines.specs.Said.{AreTakenBy, TakesStream}
-use Rattle.cmd_json.specs.Numbered.{AnswersNumbered, AreAnsweredBehind, SaysNumbered}
+use Rattle.cmd_json.specs.Numbered.{AnswersFirstNumbered, AnswersNumbered, AreAnsweredBehind, SaysNumbered}
 
 -- what one says who counts the lines
 abbrev pub Counts : {D : Type 0} → (D → ℕ) → (ℕ → BoundedLine → Outcome → List ℕ → Type 0) → D → BoundedLine → Outcome → D → List ℕ → Type 0
@@ -37,6 +40,17 @@ stream_numbered count Says old new read new_read held new_held o none so = recor
   written = so.written;
 }
 
+-- and so are the first lines, where that ended early
+pub early_numbered : {D : Type 0} (count : D → ℕ) (Says : ℕ → BoundedLine → Outcome → List ℕ → Type 0) (old : D) (read new_read held new_held : Option (List ℕ)) (e : Ended) →
+    count old ≡ 0 → WritesFirst (IsSaidToFirst (Counts count Says) old read new_read) held new_held e → WritesFirst (AnswersFirstNumbered Says read new_read) held new_held e
+early_numbered count Says old read new_read held new_held e none so =
+    said_so (IsSaidToFirst (Counts count Says) old read new_read) (AnswersFirstNumbered Says read new_read) held new_held e (λ said is. record {
+      lines = is.lines;
+      outcome = is.outcome;
+      are_first = is.are_first;
+      answered = subst (λ (n : ℕ). AreAnsweredBehind Says n is.lines is.outcome said) none (lines_answered count Says old is.lines is.outcome is.new said is.taken);
+    }) so
+
 -- what one says who counts the lines and keeps what it was asked for
 abbrev pub Keeps : {D K : Type 0} → (D → K) → (D → ℕ) → (K → ℕ → BoundedLine → Outcome → List ℕ → Type 0) → D → BoundedLine → Outcome → D → List ℕ → Type 0
 Keeps {D} {K} key count Says old line o new said = (key new ≡ key old) × SaysNumbered (Says (key old)) (count old) line o (count new) said
@@ -69,3 +83,15 @@ stream_kept key count Says old new read new_read held new_held o none so =
       taken = lines_kept key count Says old so.lines o new so.said so.taken;
       written = so.written;
     })
+
+pub early_kept : {D K : Type 0} (key : D → K) (count : D → ℕ) (Says : K → ℕ → BoundedLine → Outcome → List ℕ → Type 0) (old : D) (read new_read held new_held : Option (List ℕ)) (e : Ended) →
+    count old ≡ 0 → WritesFirst (IsSaidToFirst (Keeps key count Says) old read new_read) held new_held e → WritesFirst (AnswersFirstNumbered (Says (key old)) read new_read) held new_held e
+early_kept key count Says old read new_read held new_held e none so =
+    early_numbered count (Says (key old)) old read new_read held new_held e none
+    (said_so (IsSaidToFirst (Keeps key count Says) old read new_read) (IsSaidToFirst (Counts count (Says (key old))) old read new_read) held new_held e (λ said is. record {
+      lines = is.lines;
+      outcome = is.outcome;
+      new = is.new;
+      are_first = is.are_first;
+      taken = lines_kept key count Says old is.lines is.outcome is.new said is.taken;
+    }) so)

@@ -4,7 +4,7 @@ use Rattle.std.specs.Io.KnownBytes.{Consumes, Appends, IsAtEnd}
 use Rattle.text.specs.Lines.{BoundedLine, bounded_line}
 use Rattle.cmd_options.specs.declared.outcome.Outcome.{Outcome}
 use Rattle.cmd_options.specs.declared.outcome.Outcome.TheVariants.{Accepted}
-use Rattle.cmd_lines.specs.Lines.{AreLines}
+use Rattle.cmd_lines.specs.Lines.{AreFirstLines, AreLines}
 use Rattle.cmd_lines.specs.Said.{first_fault}
 
 -- the number of the line behind so many; the greatest number of 64 bits is the last
@@ -33,6 +33,14 @@ pub record AnswersNumbered (Says : ℕ → BoundedLine → Outcome → List ℕ 
   pub are_lines : AreLines text lines
   pub answered : AreAnsweredBehind Says 0 lines o answers
   pub written : Appends held new_held answers
+
+-- these are the answers to the first lines of what was read, numbered so
+pub record AnswersFirstNumbered (Says : ℕ → BoundedLine → Outcome → List ℕ → Type 0) (read new_read : Option (List ℕ))
+    (answers : List ℕ) : Type 0 where
+  pub lines : List (List ℕ)
+  pub outcome : Outcome
+  pub are_first : AreFirstLines read new_read lines
+  pub answered : AreAnsweredBehind Says 0 lines outcome answers
 
 -- what is said to one line behind so many is an answer with its newline, and that line is counted
 abbrev pub SaysNumbered : (ℕ → BoundedLine → Outcome → List ℕ → Type 0) → ℕ → BoundedLine → Outcome → ℕ → List ℕ

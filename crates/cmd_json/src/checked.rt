@@ -2,7 +2,8 @@
 ghost use Rattle.std.specs.Prelude.{◌≡◌, ◌⊎◌, ◌∷◌, [], ◌++◌, List, ℕ, IfErr, IfOk};
 ghost use Rattle.cmd_lines.specs.Taken.{lent};
 ghost use Rattle.cmd_json.specs.LineObjects.{SaysChecked};
-ghost use Rattle.cmd_json.specs.Numbered.{AnswersNumbered};
+ghost use Rattle.cmd_lines.specs.First.{WritesFirst};
+ghost use Rattle.cmd_json.specs.Numbered.{AnswersFirstNumbered, AnswersNumbered};
 
 use crate::finding::find;
 use crate::numbered::number_behind;
@@ -14,7 +15,8 @@ use std::alloc::Global;
 use std::io::{Read, Write};
 
 /// Checks as `cmd_check` of `cmd_lines` does, and says each answer as an object of JSON, a line each, with the number
-/// of its own line; where it is asked for why, what is right of a table whose count or score is wrong stands in it too.
+/// of its own line; where it is asked for why, what is right of a table whose count or score is wrong stands in it too. Where that ends early, what was
+/// printed is the answers to the first lines, in full unless a stream failed.
 pub fn check_json_for<R: Read, W: Write>(
     alloc: Global,
     with_why: bool,
@@ -23,6 +25,8 @@ pub fn check_json_for<R: Read, W: Write>(
 ) -> Result<Outcome, Ended>
     ensures ok { IfOk result (AnswersNumbered (SaysChecked with_why) (R.remaining input.old) (R.remaining input.new)
         (W.contents answers.old) (W.contents answers.new)) }
+    ensures first { IfErr result (WritesFirst (AnswersFirstNumbered (SaysChecked with_why) (R.remaining input.old)
+        (R.remaining input.new)) (W.contents answers.old) (W.contents answers.new)) }
     ensures err { IfErr result (λ e. (e ≡ Ended.NoMemory) ⊎ (e ≡ Ended.Stream)) }
 {
     let checker = Checker {

@@ -5,7 +5,8 @@ ghost use Rattle.cert.specs.Kinds.{read_as};
 ghost use Rattle.cmd_lines.specs.Decision.{read_line_table};
 ghost use Rattle.cmd_lines.specs.Taken.{lent};
 ghost use Rattle.cmd_json.specs.LineObjects.{IsDecidedRecord, SaysDecided};
-ghost use Rattle.cmd_json.specs.Numbered.{AnswersNumbered};
+ghost use Rattle.cmd_lines.specs.First.{WritesFirst};
+ghost use Rattle.cmd_json.specs.Numbered.{AnswersFirstNumbered, AnswersNumbered};
 ghost use Rattle.cmd_json.specs.Objects.{decide_object, object_text};
 
 use crate::numbered::number_behind;
@@ -19,7 +20,8 @@ use std::alloc::Global;
 use std::io::{Read, Write};
 
 /// Decides as `cmd_decide` of `cmd_lines` does, and says each record, or the fault of a text that is no table, as an
-/// object of JSON, a line each, with the number of its own line.
+/// object of JSON, a line each, with the number of its own line. Where that ends early, what was
+/// printed is the answers to the first lines, in full unless a stream failed.
 pub fn decide_json_for<D: Decider, R: Read, W: Write>(
     alloc: Global,
     decider: &mut D,
@@ -28,6 +30,8 @@ pub fn decide_json_for<D: Decider, R: Read, W: Write>(
 ) -> Result<Outcome, Ended>
     ensures ok { IfOk result (AnswersNumbered (SaysDecided D.answers) (R.remaining input.old) (R.remaining input.new)
         (W.contents answers.old) (W.contents answers.new)) }
+    ensures first { IfErr result (WritesFirst (AnswersFirstNumbered (SaysDecided D.answers) (R.remaining input.old)
+        (R.remaining input.new)) (W.contents answers.old) (W.contents answers.new)) }
     ensures err { IfErr result (λ e. (e ≡ Ended.NoMemory) ⊎ (e ≡ Ended.Stream)) }
 {
     let answerer = Answerer {

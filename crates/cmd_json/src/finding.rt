@@ -132,6 +132,7 @@ fn refused_words(alloc: Global, why: Refused) -> Result<String, NoMemory>
         Refused::Fails => "it doesn't hold for the table",
         Refused::TooLong => "it asks for more than the limit of its kind",
         Refused::TooWide => "it asks for more paths, or larger numbers, than its check keeps",
+        Refused::NotSeen => "its run isn't seen to repeat",
         Refused::NoMemory => "memory is refused",
     };
     String::from_str(alloc, words)

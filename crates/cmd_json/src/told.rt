@@ -9,7 +9,8 @@ ghost use Rattle.cmd_lines.specs.Taken.{lent};
 ghost use Rattle.cmd_explain.specs.Explained.{TellsClaim};
 ghost use Rattle.cmd_json.specs.Found.{Finds, FindsRecord, IsTrueRecord, TellsWords, found, outcome_found};
 ghost use Rattle.cmd_json.specs.LineObjects.{SaysTold};
-ghost use Rattle.cmd_json.specs.Numbered.{AnswersNumbered};
+ghost use Rattle.cmd_lines.specs.First.{WritesFirst};
+ghost use Rattle.cmd_json.specs.Numbered.{AnswersFirstNumbered, AnswersNumbered};
 
 use crate::finding::{Finding, fault_found, find_record, shown};
 use crate::numbered::number_behind;
@@ -24,7 +25,8 @@ use std::io::{Read, Write};
 use text::first_line;
 
 /// Explains as `cmd_explain` of `cmd_explain` does, and says each answer with its words as an object of JSON, a line
-/// each, with the number of its own line.
+/// each, with the number of its own line. Where that ends early, what was
+/// printed is the answers to the first lines, in full unless a stream failed.
 pub fn explain_json_for<R: Read, W: Write>(
     alloc: Global,
     input: &mut R,
@@ -32,6 +34,8 @@ pub fn explain_json_for<R: Read, W: Write>(
 ) -> Result<Outcome, Ended>
     ensures ok { IfOk result (AnswersNumbered SaysTold (R.remaining input.old) (R.remaining input.new)
         (W.contents answers.old) (W.contents answers.new)) }
+    ensures first { IfErr result (WritesFirst (AnswersFirstNumbered SaysTold (R.remaining input.old)
+        (R.remaining input.new)) (W.contents answers.old) (W.contents answers.new)) }
     ensures err { IfErr result (λ e. (e ≡ Ended.NoMemory) ⊎ (e ≡ Ended.Stream)) }
 {
     let explainer = Explainer { alloc, lines: 0 };

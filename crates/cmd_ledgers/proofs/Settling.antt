@@ -104,4 +104,4 @@ module _ (IfAccepted IfRefused : Type 0) (held new_held : Option (List ℕ)) whe
       → TellsByReport IfAccepted IfRefused held new_held o
   tells (Ok done) said new_said o so told = subst (TellsByReport IfAccepted IfRefused held new_held) (sym told.0) (done_tells done so)
   tells (Err e) said new_said o so (inl told) = subst (TellsByReport IfAccepted IfRefused held new_held) (sym told.0) (ended_tells e so)
-  tells (Err e) said new_said o so (inr failed) = subst (TellsByReport IfAccepted IfRefused held new_held) (sym failed) tt
+  tells (Err e) said new_said o so (inr failed) = subst (TellsByReport IfAccepted IfRefused held new_held) (sym failed.0) tt

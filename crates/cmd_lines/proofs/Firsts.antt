@@ -13,14 +13,17 @@ use Rattle.text.specs.Lines.{bounded_line}
 use Rattle.cert.specs.Claim.{Recorded}
 use Rattle.cert.specs.declared.record_fault.RecordFault.{RecordFault}
 use Rattle.cmd_lines.specs.Answer.{read_line}
+use Rattle.cmd_options.specs.declared.ended.Ended.{Ended}
 use Rattle.cmd_options.specs.declared.outcome.Outcome.{Outcome}
 use Rattle.cmd_options.specs.declared.outcome.Outcome.TheVariants.{Accepted}
+use Rattle.cmd_lines.specs.First.{IsSaidToFirst, WritesFirst}
 use Rattle.cmd_lines.specs.Said.{AreTakenBy, TakesStream, first_fault}
 use Rattle.cmd_lines.specs.Taken.{lent}
 use Rattle.cmd_options.specs.declared.options.Listing.{Listing}
-use Rattle.cmd_lines.specs.Listed.{Found, alone, found_by, of_record, tables_of, first_ones, found_line, same_packed, IsPrinted, ArePrinted, AreFoundIn, IsFoundIn, ListsTables}
+use Rattle.cmd_lines.specs.Listed.{Found, alone, found_by, of_record, tables_of, first_ones, found_line, same_packed, IsPrinted, ArePrinted, AreFoundIn, IsFoundIn, ListsFirst, ListsTables}
 use Rattle.cmd_lines.specs.Words.{words, onto, tables_among, tables_of_line}
-use Rattle.cmd_lines.specs.inside.Listing.{ListsFirst, ListsFor, ListsLine, words_left, left_tables}
+use Rattle.cmd_lines.proofs.Early.{said_so, stream_first}
+use Rattle.cmd_lines.specs.inside.Listing.{PrintsFirst, ListsFor, ListsLine, words_left, left_tables}
 
 -- what is found of a table that came before, and of one that didn't
 first_came : (came : List Packed) (f : Found) (found : List Found) → list_any (same_packed f.table) came ≡ true → first_ones came (f ∷ found) ≡ first_ones came found
@@ -63,7 +66,7 @@ alone_both : (xs ys : List Packed) → map alone (xs ++ ys) ≡ map alone xs ++ 
 alone_both [] ys = refl
 alone_both (t ∷ xs) ys = ap (λ (k : List Found). alone t ∷ k) (alone_both xs ys)
 
-pub lists_both : (a : List Packed) (xs : List Found) (b : List Packed) (ys : List Found) (c : List Packed) (s u : List ℕ) → ListsFirst a xs b s → ListsFirst b ys c u → ListsFirst a (xs ++ ys) c (s ++ u)
+pub lists_both : (a : List Packed) (xs : List Found) (b : List Packed) (ys : List Found) (c : List Packed) (s u : List ℕ) → PrintsFirst a xs b s → PrintsFirst b ys c u → PrintsFirst a (xs ++ ys) c (s ++ u)
 lists_both a xs b ys c s u first second =
     let f = first_ones a xs in
     let g : first_ones b ys ≡ first_ones (a ++ tables_of f) ys = ap (λ (k : List Packed). first_ones k ys) first.came_new in
@@ -88,7 +91,7 @@ pub lists_for_both : (l : Listing) (a xs b ys c : List Packed) (s u : List ℕ) 
 lists_for_both l a xs b ys c s u first second =
     subst (λ (k : List Found). ListsFor l a k c (s ++ u)) (sym (alone_both xs ys)) (lists_so l a (map alone xs) b (map alone ys) c s u first second)
 
-lists_nothing : (came : List Packed) → ListsFirst came [] came []
+lists_nothing : (came : List Packed) → PrintsFirst came [] came []
 lists_nothing came = record {
   came_new = sym (ap (λ (k : List Found). came ++ tables_of k) (first_none came) ∙ append-nil came);
   said_new = sym (ap (flat_map found_line) (first_none came));
@@ -214,6 +217,30 @@ module _ {D : Type 0} (listing : D → Listing) (came : D → List Packed) where
           written = subst (Appends held new_held) said so.written;
         },
       )
+
+  first_listed : (old : D) (read new_read : Option (List ℕ)) (said : List ℕ) → came old ≡ [] → IsSaidToFirst (ListsLine listing came) old read new_read said → ListsFirst (listing old) read new_read said
+  first_listed old read new_read said none so =
+      let (accepted, found, are_found, all) = lines_listed old so.lines so.outcome so.new said so.taken in
+      let (printed, are_printed, lists) = all in
+      record {
+        lines = so.lines;
+        found = found;
+        printed = printed;
+        are_first = so.are_first;
+        are_found = are_found;
+        are_printed = are_printed;
+        is = lists.said_new ∙ ap (λ (k : List Packed). flat_map found_line (first_ones k printed)) none;
+      }
+
+  -- where that ended early, or what came behind it did
+  pub early_listed : (old : D) (read new_read held new_held : Option (List ℕ)) (e : Ended) → came old ≡ [] → WritesFirst (IsSaidToFirst (ListsLine listing came) old read new_read) held new_held e
+      → WritesFirst (ListsFirst (listing old) read new_read) held new_held e
+  early_listed old read new_read held new_held e none so =
+      said_so (IsSaidToFirst (ListsLine listing came) old read new_read) (ListsFirst (listing old) read new_read) held new_held e (λ said is. first_listed old read new_read said none is) so
+
+  pub all_listed : (old new : D) (read new_read held new_held : Option (List ℕ)) (o : Outcome) (e : Ended) → came old ≡ [] → TakesStream (ListsLine listing came) old new read new_read held new_held o
+      → WritesFirst (ListsFirst (listing old) read new_read) held new_held e
+  all_listed old new read new_read held new_held o e none so = early_listed old read new_read held new_held e none (stream_first (ListsLine listing came) old new read new_read held new_held o e so)
 
 -- what is found in a line that is read without white space at its ends
 pub found_read : (records : Bool) (o : Option (Bor (List ℕ))) (line : Bor (List ℕ)) (trimmed : List ℕ) (r : Result Recorded RecordFault) → records ≡ true → o ≡ Some line → IsTrimAscii line.now trimmed → read_line (Some trimmed) ≡ r

@@ -1,6 +1,7 @@
 pub mod Answering
 pub mod Taking
 pub mod Pieces
+pub mod Early
 pub mod Firsts
 pub mod Cutting
 pub mod Naming

@@ -26,26 +26,26 @@ fault_none BadLine = refl
 fault_none NoMemory = refl
 fault_none Failed = refl
 
-joined_both : (lines more : List (List ℕ)) → joined (lines ++ more) ≡ joined lines ++ joined more
+pub joined_both : (lines more : List (List ℕ)) → joined (lines ++ more) ≡ joined lines ++ joined more
 joined_both [] more = refl
 joined_both (l ∷ lines) more = ap (λ t. l ++ (10 ∷ t)) (joined_both lines more) ∙ sym (append_assoc l (10 ∷ joined lines) (joined more))
 
-whole_both : (lines more : List (List ℕ)) → AreOneLineEach lines → AreOneLineEach more → AreOneLineEach (lines ++ more)
+pub whole_both : (lines more : List (List ℕ)) → AreOneLineEach lines → AreOneLineEach more → AreOneLineEach (lines ++ more)
 whole_both [] more all others = others
 whole_both (l ∷ lines) more all others = (all.0, whole_both lines more all.1 others)
 
 -- whole lines, and behind them the lines of what stands there
-lines_behind : (lines more : List (List ℕ)) (text : List ℕ) → AreOneLineEach lines → AreLines text more → AreLines (joined lines ++ text) (lines ++ more)
+pub lines_behind : (lines more : List (List ℕ)) (text : List ℕ) → AreOneLineEach lines → AreLines text more → AreLines (joined lines ++ text) (lines ++ more)
 lines_behind [] more text all are = are
 lines_behind (l ∷ lines) more text all are =
     inl (joined lines ++ text, record { is = append_assoc l (10 ∷ joined lines) text; one_line = all.0 }, lines_behind lines more text all.1 are)
 
 module _ {S : Type 0} (Takes : S → BoundedLine → Outcome → S → List ℕ → Type 0) where
   -- what is said to lines waits behind what waited before
-  abbrev Behind : Saying S → BoundedLine → Saying S → Type 0
+  abbrev pub Behind : Saying S → BoundedLine → Saying S → Type 0
   Behind a line b = SaysBehind Takes a.sayer a.outcome a.waits.items line b.sayer b.outcome b.waits.items
 
-  said_in_turn : (old : Saying S) (lines : List (List ℕ)) (new : Saying S) → AreTakenInTurn Behind old lines new →
+  pub said_in_turn : (old : Saying S) (lines : List (List ℕ)) (new : Saying S) → AreTakenInTurn Behind old lines new →
       (o : Outcome) × (said : List ℕ) × AreTakenBy Takes old.sayer lines o new.sayer said × (new.outcome ≡ first_fault old.outcome o) × (new.waits.items ≡ old.waits.items ++ said)
   said_in_turn old [] new same = (
     Accepted,
@@ -64,7 +64,7 @@ module _ {S : Type 0} (Takes : S → BoundedLine → Outcome → S → List ℕ 
       )
 
   -- lines that are taken, and then others
-  taken_both : (old : S) (lines : List (List ℕ)) (o : Outcome) (middle : S) (said : List ℕ) (more : List (List ℕ)) (later : Outcome) (new : S) (others : List ℕ) →
+  pub taken_both : (old : S) (lines : List (List ℕ)) (o : Outcome) (middle : S) (said : List ℕ) (more : List (List ℕ)) (later : Outcome) (new : S) (others : List ℕ) →
       AreTakenBy Takes old lines o middle said → AreTakenBy Takes middle more later new others → AreTakenBy Takes old (lines ++ more) (first_fault o later) new (said ++ others)
   taken_both old [] o middle said more later new others so then =
       subst (λ (d : S). AreTakenBy Takes d more (first_fault o later) new (said ++ others)) so.1
@@ -99,7 +99,7 @@ module _ {S : Type 0} (Takes : S → BoundedLine → Outcome → S → List ℕ 
   }
 
   -- of the line that is begun nothing is taken yet
-  begun_alone : (old : Saying S) (begun : BoundedLine) (start : S) (read new_read held new_held : Option (List ℕ)) (o : Outcome) (now : S) →
+  pub begun_alone : (old : Saying S) (begun : BoundedLine) (start : S) (read new_read held new_held : Option (List ℕ)) (o : Outcome) (now : S) →
       (so : IsSaid Takes start read new_read held new_held begun o now) → HasTakenLines Behind old so.last begun old
   begun_alone old begun start read new_read held new_held o now so = record {
     lines = [];

@@ -4,6 +4,7 @@ pub mod Stream
 pub mod Lines
 pub mod Taken
 pub mod Said
+pub mod First
 pub mod inside
 pub mod Words
 pub mod Normal

@@ -11,7 +11,7 @@ use Rattle.text.specs.Lines.{BoundedLine, bounded_line}
 use Rattle.cert.specs.Claim.{Claim, Recorded}
 use Rattle.cert.specs.Grammar.{record_text}
 use Rattle.cert.specs.declared.record_fault.RecordFault.{RecordFault}
-use Rattle.cmd_lines.specs.Lines.{AreLines}
+use Rattle.cmd_lines.specs.Lines.{AreFirstLines, AreLines}
 use Rattle.cmd_lines.specs.Answer.{read_line}
 use Rattle.run.specs.Limits.{run_step_limit}
 use Rattle.cmd_options.specs.declared.options.Listing.{Listing}
@@ -106,3 +106,13 @@ pub record ListsTables (listing : Listing) (read new_read held new_held : Option
   pub are_found : AreFoundIn listing lines found
   pub are_printed : ArePrinted listing found printed
   pub written : Appends held new_held (flat_map found_line (first_ones [] printed))
+
+-- this is printed of what is found in the first lines of what was read, the first of each table
+pub record ListsFirst (listing : Listing) (read new_read : Option (List ℕ)) (said : List ℕ) : Type 0 where
+  pub lines : List (List ℕ)
+  pub found : List Found
+  pub printed : List Found
+  pub are_first : AreFirstLines read new_read lines
+  pub are_found : AreFoundIn listing lines found
+  pub are_printed : ArePrinted listing found printed
+  pub is : said ≡ flat_map found_line (first_ones [] printed)

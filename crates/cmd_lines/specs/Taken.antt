@@ -7,7 +7,7 @@ use Rattle.cmd_options.specs.declared.ended.Ended.{Ended}
 use Rattle.cmd_options.specs.declared.ended.Ended.TheVariants.{NoMemory as WantsMemory}
 use Rattle.cmd_options.specs.declared.stopped.Stopped.{Stopped}
 use Rattle.cmd_options.specs.declared.stopped.Stopped.TheVariants.{Failed, Ended as EndedBy}
-use Rattle.cmd_lines.specs.Lines.{AreOneLineEach}
+use Rattle.cmd_lines.specs.Lines.{AreOneLineEach, BeginsWithLines}
 
 -- a line that is lent, or none
 abbrev pub lent : Option (Bor (List ℕ)) → BoundedLine
@@ -36,6 +36,22 @@ abbrev pub TakesMore : {D : Type 0} → (D → BoundedLine → D → Type 0) →
     → Type 0
 TakesMore {D} Takes piece begun old new_begun new = (start : D) → (text : List ℕ)
     → HasTakenLines Takes start text begun old → HasTakenLines Takes start (text ++ piece) new_begun new
+
+-- where the taking ended early: of a text the first lines were taken, and what is remembered is what was then, or what the
+-- line that ended it left of that
+pub record HasTakenFirst {D : Type 0} (Takes : D → BoundedLine → D → Type 0) (Leaves : D → D → Type 0) (start : D)
+    (text : List ℕ) (now : D) : Type 0 where
+  pub lines : List (List ℕ)
+  pub begins : BeginsWithLines text lines
+  pub last : D
+  pub taken : AreTakenInTurn Takes start lines last
+  pub left : (now ≡ last) ⊎ Leaves last now
+
+-- whatever was taken of a text before, of the text with a piece more the first lines are taken
+abbrev pub TakesFirst : {D : Type 0} → (D → BoundedLine → D → Type 0) → (D → D → Type 0) → List ℕ → BoundedLine → D → D
+    → Type 0
+TakesFirst {D} Takes Leaves piece begun old new = (start : D) → (text : List ℕ)
+    → HasTakenLines Takes start text begun old → HasTakenFirst Takes Leaves start (text ++ piece) new
 
 -- this text was read, and that is all: so many bytes, or all that the reader has
 pub record IsReadWhole (read : Option (List ℕ)) (limit : ℕ) (text : List ℕ) (new_read : Option (List ℕ)) : Type 0 where

@@ -1,6 +1,7 @@
 // `bb check`: records in, answers out.
 ghost use Rattle.std.specs.Prelude.{◌≡◌, ◌⊎◌, IfErr, IfOk};
 ghost use Rattle.cmd_lines.specs.Answer.{SaysOfRecord};
+ghost use Rattle.cmd_lines.specs.First.{AnswersFirst, EndsSaying, WritesFirst};
 ghost use Rattle.cmd_lines.specs.Stream.{AnswersStream};
 
 use crate::answers::answer;
@@ -18,8 +19,9 @@ const TABLE_ALONE: Remark = Remark {
 };
 
 /// Reads a record a line and prints an answer a line. A last line without newline is read too. A person is told on `faults` at
-/// the end which line was the first that is a table alone. What a failed stream or refused memory ends is said there too; else what was printed is the answers to the lines of
-/// the input, in their order, and each `halts K` and each `never` of them is true of its table.
+/// the end which line was the first that is a table alone. What was printed is the answers to the lines of the input, in
+/// their order, and each `halts K` and each `never` of them is true of its table. What a failed stream or refused memory
+/// ends is said on `faults`: then it is the answers to the first lines, in full where memory was refused.
 pub fn cmd_check<R: Read, W: Write, E: Write>(
     alloc: Global,
     reader: Reader,
@@ -27,9 +29,10 @@ pub fn cmd_check<R: Read, W: Write, E: Write>(
     answers: &mut W,
     faults: &mut E,
 ) -> Outcome
-    ensures { AnswersStream SaysOfRecord (R.remaining input.old) (R.remaining input.new) (W.contents answers.old)
-        (W.contents answers.new) result
-        ⊎ (result ≡ Outcome.NoMemory) ⊎ (result ≡ Outcome.Failed) }
+    ensures { EndsSaying (AnswersStream SaysOfRecord (R.remaining input.old) (R.remaining input.new)
+        (W.contents answers.old) (W.contents answers.new))
+        (AnswersFirst SaysOfRecord (R.remaining input.old) (R.remaining input.new)) (W.contents answers.old)
+        (W.contents answers.new) result }
 {
     told(check_for(alloc, reader, input, answers, faults), faults)
 }
@@ -44,6 +47,8 @@ fn check_for<R: Read, W: Write, E: Write>(
 ) -> Result<Outcome, Ended>
     ensures ok { IfOk result (AnswersStream SaysOfRecord (R.remaining input.old) (R.remaining input.new)
         (W.contents answers.old) (W.contents answers.new)) }
+    ensures first { IfErr result (WritesFirst (AnswersFirst SaysOfRecord (R.remaining input.old)
+        (R.remaining input.new)) (W.contents answers.old) (W.contents answers.new)) }
     ensures err { IfErr result (λ e. (e ≡ Ended.NoMemory) ⊎ (e ≡ Ended.Stream)) }
 {
     let checker = Checker {

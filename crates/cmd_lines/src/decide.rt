@@ -2,6 +2,7 @@
 ghost use Rattle.std.specs.Prelude.{◌≡◌, ◌⊎◌, ◌∷◌, [], ◌++◌, List, ℕ, IfErr, IfOk};
 ghost use Rattle.cmd_lines.specs.Taken.{lent};
 ghost use Rattle.cmd_lines.specs.Decision.{Decides, DecidesTable, SaysOfTable, read_line_table, table_read};
+ghost use Rattle.cmd_lines.specs.First.{AnswersFirst, EndsSaying, WritesFirst};
 ghost use Rattle.cmd_lines.specs.Stream.{AnswersStream};
 
 use crate::answers::append_fault;
@@ -22,7 +23,9 @@ const RECORD: Remark = Remark {
 
 /// Reads a table a line and prints a record a line, as the decider answers: certified, or undecided. Lines are
 /// answered as they come, and a last line without newline is read too. A person is told on `faults` at the end which line
-/// was the first that is a record. What a failed stream or refused memory ends is said there too; else what was printed is the answers to the lines of the input, in their order.
+/// was the first that is a record. What was printed is the answers to the lines of the input, in their order. What a failed
+/// stream or refused memory ends is said on `faults`: then it is the answers to the first lines, in full where memory was
+/// refused.
 pub fn cmd_decide<D: Decider, R: Read, W: Write, E: Write>(
     alloc: Global,
     reader: Reader,
@@ -31,9 +34,10 @@ pub fn cmd_decide<D: Decider, R: Read, W: Write, E: Write>(
     answers: &mut W,
     faults: &mut E,
 ) -> Outcome
-    ensures { AnswersStream (SaysOfTable D.answers) (R.remaining input.old) (R.remaining input.new)
-        (W.contents answers.old) (W.contents answers.new) result
-        ⊎ (result ≡ Outcome.NoMemory) ⊎ (result ≡ Outcome.Failed) }
+    ensures { EndsSaying (AnswersStream (SaysOfTable D.answers) (R.remaining input.old) (R.remaining input.new)
+        (W.contents answers.old) (W.contents answers.new))
+        (AnswersFirst (SaysOfTable D.answers) (R.remaining input.old) (R.remaining input.new)) (W.contents answers.old)
+        (W.contents answers.new) result }
 {
     told(
         decide_for(alloc, reader, decider, input, answers, faults),
@@ -52,6 +56,8 @@ fn decide_for<D: Decider, R: Read, W: Write, E: Write>(
 ) -> Result<Outcome, Ended>
     ensures ok { IfOk result (AnswersStream (SaysOfTable D.answers) (R.remaining input.old) (R.remaining input.new)
         (W.contents answers.old) (W.contents answers.new)) }
+    ensures first { IfErr result (WritesFirst (AnswersFirst (SaysOfTable D.answers) (R.remaining input.old)
+        (R.remaining input.new)) (W.contents answers.old) (W.contents answers.new)) }
     ensures err { IfErr result (λ e. (e ≡ Ended.NoMemory) ⊎ (e ≡ Ended.Stream)) }
 {
     let answerer = TableAnswerer {

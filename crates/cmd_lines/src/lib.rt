@@ -2,9 +2,10 @@
 //! over lines that other commands use too.
 //!
 //! `specs/Lines` says which lines a text has that comes in pieces, `specs/Taken` what it is that they are taken one after
-//! another by a taker that remembers what came before, `specs/Said` what is said to them then. `specs/Answer` is the answer to a
-//! line of `bb check`, `specs/Decision` that of `bb decide`; `specs/Words` says which tables stand in a text, `specs/Listed`
-//! what `bb tables` prints of them. `specs/inside` and `proofs` are for the code alone.
+//! another by a taker that remembers what came before, `specs/Said` what is said to them then, and `specs/First` what was said
+//! where that ended early. `specs/Answer` is the answer to a line of `bb check`, `specs/Decision` that of `bb decide`;
+//! `specs/Words` says which tables stand in a text, `specs/Listed` what `bb tables` prints of them. `specs/inside` and `proofs`
+//! are for the code alone.
 #![tactic(auto)]
 
 mod answers;

@@ -1,7 +1,7 @@
 // From the pieces of a text to its lines.
-ghost use Rattle.std.specs.Prelude.{◌≡◌, ◌↔◌, List, ℕ, [], Some, false, IfErr, OnOk};
+ghost use Rattle.std.specs.Prelude.{◌≡◌, ◌↔◌, List, ℕ, [], Some, false, IfErr, OnErr, OnOk};
 ghost use Rattle.cmd_lines.specs.Lines.{AreLines};
-ghost use Rattle.cmd_lines.specs.Taken.{AreTakenInTurn, HasTakenLines, IsReadWhole, StopsTaking, StopsTakingFrom, TakesMore};
+ghost use Rattle.cmd_lines.specs.Taken.{AreTakenInTurn, HasTakenFirst, HasTakenLines, IsReadWhole, StopsTaking, StopsTakingFrom, TakesFirst, TakesMore};
 
 use crate::taker::LineTaker;
 use cmd_options::{Ended, Stopped};
@@ -40,6 +40,7 @@ impl LineLoop {
     /// Takes the next piece of the text: each line whose newline is in it.
     pub fn take<T: LineTaker>(&mut self, piece: &[u8], taker: &mut T) -> Result<(), Ended>
         ensures ok { OnOk result (TakesMore T.takes piece.now self.old taker.old self.new taker.new) }
+        ensures first { OnErr result (TakesFirst T.takes T.leaves piece.now self.old taker.old taker.new) }
         ensures err { IfErr result (StopsTaking T.ends) }
     {
         let mut left = piece;
@@ -90,6 +91,8 @@ impl LineLoop {
     pub fn end<T: LineTaker>(&mut self, taker: &mut T) -> Result<(), Ended>
         ensures ok { OnOk result ((start : T) (text : List ℕ) → HasTakenLines T.takes start text self.old taker.old →
             (lines : List (List ℕ)) × AreLines text lines × AreTakenInTurn T.takes start lines taker.new) }
+        ensures first { OnErr result ((start : T) (text : List ℕ) → HasTakenLines T.takes start text self.old taker.old
+            → HasTakenFirst T.takes T.leaves start text taker.new) }
         ensures err { IfErr result (StopsTaking T.ends) }
     {
         if self.is_begun() {
@@ -113,6 +116,7 @@ impl LineLoop {
     fn end_line<T: LineTaker>(&mut self, taker: &mut T) -> Result<(), Ended>
         ensures begun { OnOk result (self.new ≡ Some []) }
         ensures taken { OnOk result (T.takes taker.old self.old taker.new) }
+        ensures left { OnErr result (T.leaves taker.old taker.new) }
         ensures err { IfErr result T.ends }
     {
         taker.take_line(self.cutter.line())?;

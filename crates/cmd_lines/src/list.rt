@@ -5,7 +5,8 @@ ghost use Rattle.indexmap.specs.IndexSet.{insert_key};
 ghost use Rattle.cmd_lines.specs.Taken.{lent};
 ghost use Rattle.run.specs.Limits.{run_step_limit};
 ghost use Rattle.cert.specs.Kinds.{recorded};
-ghost use Rattle.cmd_lines.specs.Listed.{Found, IsFoundIn, IsInForm, ListsTables, alone, of_record, same_packed};
+ghost use Rattle.cmd_lines.specs.First.{EndsSaying, WritesFirst};
+ghost use Rattle.cmd_lines.specs.Listed.{Found, IsFoundIn, IsInForm, ListsFirst, ListsTables, alone, of_record, same_packed};
 ghost use Rattle.cmd_lines.specs.Words.{tables_among, tables_in, tables_of_line};
 ghost use Rattle.cmd_lines.specs.inside.Listing.{ListsFor, found_if};
 
@@ -24,7 +25,8 @@ use std::io::{Read, Write};
 /// Reads a text of any form, and prints the tables in it in the standard form, a line each, where they come first: renamed
 /// and mirrored as their runs ask for, if that is wanted; and a line that is a record, but for white space at its ends, as
 /// it stands, if records are kept. How many lines had none, and how many tables had come before, is
-/// said on `faults` at the end, and what a failed stream or refused memory ends.
+/// said on `faults` at the end, and what a failed stream or refused memory ends: then what was printed is what is found in
+/// the first lines, in full where memory was refused.
 pub fn cmd_tables<R: Read, W: Write, E: Write>(
     alloc: Global,
     listing: &Listing,
@@ -32,9 +34,10 @@ pub fn cmd_tables<R: Read, W: Write, E: Write>(
     answers: &mut W,
     faults: &mut E,
 ) -> Outcome
-    ensures { ((result ≡ Outcome.Accepted) × ListsTables listing.now (R.remaining input.old) (R.remaining input.new)
-        (W.contents answers.old) (W.contents answers.new))
-        ⊎ (result ≡ Outcome.NoMemory) ⊎ (result ≡ Outcome.Failed) }
+    ensures { EndsSaying (λ o. (o ≡ Outcome.Accepted) × ListsTables listing.now (R.remaining input.old)
+        (R.remaining input.new) (W.contents answers.old) (W.contents answers.new))
+        (ListsFirst listing.now (R.remaining input.old) (R.remaining input.new)) (W.contents answers.old)
+        (W.contents answers.new) result }
 {
     told(list_tables(alloc, listing, input, answers, faults), faults)
 }
@@ -49,6 +52,8 @@ fn list_tables<R: Read, W: Write, E: Write>(
 ) -> Result<Outcome, Ended>
     ensures ok { IfOk result (λ o. (o ≡ Outcome.Accepted) × ListsTables listing.now (R.remaining input.old)
         (R.remaining input.new) (W.contents answers.old) (W.contents answers.new)) }
+    ensures first { IfErr result (WritesFirst (ListsFirst listing.now (R.remaining input.old) (R.remaining input.new))
+        (W.contents answers.old) (W.contents answers.new)) }
     ensures err { IfErr result (λ e. (e ≡ Ended.NoMemory) ⊎ (e ≡ Ended.Stream)) }
 {
     let lister = Lister {

@@ -3,6 +3,8 @@ pub mod WorkTurns
 pub mod Moves
 pub mod Becoming
 pub mod Peers
+pub mod Traffic
+pub mod OwnFaults
 pub mod Taking
 pub mod Roots
 pub mod Steps

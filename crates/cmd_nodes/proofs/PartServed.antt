@@ -14,6 +14,9 @@ use Rattle.cmd_ledgers.proofs.Retrying.{cut_reads}
 use Rattle.cmd_options.specs.declared.outcome.Outcome.{Outcome}
 use Rattle.cmd_options.specs.declared.ended.Ended.{Ended}
 use Rattle.cmd_options.specs.declared.ended.Ended.TheVariants.{Stream}
+use Rattle.peers.specs.declared.conduct.Conduct.{Conduct}
+use Rattle.peers.specs.Connections.{Taking}
+use Rattle.cmd_nodes.specs.Listened.{HasListened, Traffic}
 use Rattle.cmd_nodes.specs.Served.{Becomes, NoneOpen}
 use Rattle.cmd_nodes.specs.Settled.{IsOfLedger, ReportsPart, SettlesPart}
 use Rattle.cmd_nodes.specs.inside.{IsServed, IsSettled, ReportsBoard, StartsPart}
@@ -39,8 +42,9 @@ module _ (has : Option (List ℕ)) (limit : ℕ) (before : Option (List ℕ)) wh
   }
 
   -- and was served
-  module _ (IsText : FormText) (era : ℕ) (mid after said new_said : Option (List ℕ)) (first last : Coordinating) (starts : StartsPart era has limit before mid first) (serves : IsServed first last mid after) (settled : IsSettled last) where
-    part_reports : (o : Outcome) → IfSome last.held (λ leased. ReportsBoard IsText leased.board said new_said o) → ReportsPart IsText era has limit before after said new_said o
+  module _ (IsText : FormText) (era : ℕ) (mid after said new_said : Option (List ℕ)) (first last : Coordinating) (starts : StartsPart era has limit before mid first) (serves : IsServed first last mid after) (settled : IsSettled last)
+      (conduct : Conduct) (takes : Taking) (come gone : Traffic) (listened : HasListened conduct takes first last after come gone) where
+    part_reports : (o : Outcome) → IfSome last.held (λ leased. ReportsBoard IsText leased.board said new_said o) → ReportsPart IsText era has limit conduct takes come gone before after said new_said o
     part_reports o reported =
         let (leased, is, root) = became_keep first last serves.became starts.loaded.root (record { board = starts.loaded; leases = no_leases }, ap (λ (s : Coordinating). s.held) starts.is, refl) in
         let reports : ReportsBoard IsText leased.board said new_said o = subst (λ (h : Option Leased). IfSome h (λ leased. ReportsBoard IsText leased.board said new_said o)) is reported in
@@ -50,6 +54,7 @@ module _ (has : Option (List ℕ)) (limit : ℕ) (before : Option (List ℕ)) wh
           loads = starts.loads;
           board = leased.board;
           comes = record { last = last; became = subst (λ (s : Coordinating). Becomes On s last) starts.is serves.became; holds = ap board_of is };
+          listened = subst (λ (s : Coordinating). HasListened conduct takes s last after come gone) starts.is listened;
           none_open = subst (λ (o : Option Leased). IfSome (board_of o) NoneOpen) is settled;
           reports = record {
             is_board = reports.is_board;
@@ -65,6 +70,6 @@ module _ (has : Option (List ℕ)) (limit : ℕ) (before : Option (List ℕ)) wh
         }
 
     pub part_settles : (r : Result Outcome Ended) → IfOk r (λ o. IfSome last.held (λ leased. ReportsBoard IsText leased.board said new_said o)) → IfErr r (λ e. (new_said ≡ said) ⊎ (e ≡ Stream))
-        → SettlesPart IsText era has limit before after said new_said r
+        → SettlesPart IsText era has limit conduct takes come gone before after said new_said r
     part_settles (Ok o) ok err = part_reports o ok
     part_settles (Err e) ok err = err

@@ -12,6 +12,9 @@ use Rattle.lease_core.specs.CoordinatorRules.{Coordinating, On}
 use Rattle.lease_core.specs.Starts.{HeldInStep, InStep, StartsFrom}
 use Rattle.lease_core.specs.declared.start_fault.StartFault.{StartFault}
 use Rattle.files.specs.declared.opened.Opened.{Opened}
+use Rattle.peers.specs.declared.conduct.Conduct.{Conduct}
+use Rattle.peers.specs.Connections.{Taking}
+use Rattle.cmd_nodes.specs.Listened.{HasListened, Traffic}
 use Rattle.cmd_nodes.specs.Served.{IsBegunFrom, IsBegunWith, NoneOpen}
 use Rattle.cmd_nodes.specs.Settled.{IsOfLedger, IsServedBoard, IsSettledBoard, KeepsLedger}
 use Rattle.cmd_nodes.specs.inside.{IsServed, IsSettled, KeepsStep, StartsInStep}
@@ -97,9 +100,19 @@ module _ {F : Type 0} (n era : ℕ) (remaining : F → Option (List ℕ)) where
     none_open : IsSettled last → (leased : Leased) → last.held ≡ Some leased → NoneOpen leased.board
     none_open settled leased is = subst (λ (o : Option Leased). IfSome (board_of o) NoneOpen) is settled
 
-    -- and of a settled one
-    pub settled_board : IsSettled last → (leased : Leased) → last.held ≡ Some leased → IsSettledBoard n era remaining held old new leased.board
-    settled_board settled leased is = (served_board leased is, none_open settled leased is)
+    -- and of a settled one, which listened
+    pub settled_board : (conduct : Conduct) (takes : Taking) (before after : Traffic) → IsSettled last → HasListened conduct takes first last new before after → (leased : Leased)
+        → last.held ≡ Some leased → IsSettledBoard n era remaining held conduct takes old new before after leased.board
+    settled_board conduct takes before after settled listened leased is = (
+      record {
+        first = first;
+        begins = begins;
+        comes = record { last = last; became = serves.became; holds = ap board_of is };
+        kept = ledger_kept held old then new first last leased is starts serves.step;
+      },
+      none_open settled leased is,
+      listened,
+    )
 
     -- or of one whose workers have taken all rounds
     pub run_board : (AreTaken : Type 0) → IsSettled last ⊎ AreTaken → (leased : Leased) → last.held ≡ Some leased → IsServedBoard n era remaining held old new leased.board × (NoneOpen leased.board ⊎ AreTaken)

@@ -20,7 +20,10 @@ use Rattle.lease_core.specs.CoordinatorRules.{Coordinating}
 use Rattle.lease_core.specs.Starts.{started}
 use Rattle.wire.specs.Fulfilled.{Answering}
 use Rattle.cmd_nodes.specs.Rounds.{HasTakenRounds}
+use Rattle.peers.specs.declared.conduct.Conduct.{Conduct}
+use Rattle.peers.specs.Connections.{Taking}
 use Rattle.cmd_nodes.specs.Served.{IsBegunFrom, ComesToHold, NoneOpen}
+use Rattle.cmd_nodes.specs.Listened.{HasListened, Traffic}
 
 -- what a ledger holds is what was opened of it, to its last byte
 pub record IsOfLedger (has : Option (List ℕ)) (len : ℕ) (text : Option (List ℕ)) : Type 0 where
@@ -45,10 +48,12 @@ pub record IsServedBoard {F : Type 0} (n era : ℕ) (remaining : F → Option (L
   pub comes : ComesToHold first board
   pub kept : KeepsLedger remaining held old new board
 
--- and no table of it is open
-abbrev pub IsSettledBoard : {F : Type 0} → ℕ → ℕ → (F → Option (List ℕ)) → Result (Opened F) Error → Option (List ℕ)
-    → Option (List ℕ) → Contents → Type 0
-IsSettledBoard n era remaining held old new board = IsServedBoard n era remaining held old new board × NoneOpen board
+-- no table of it is open, and what came over connections until then, that coordinator listened to
+abbrev pub IsSettledBoard : {F : Type 0} → ℕ → ℕ → (F → Option (List ℕ)) → Result (Opened F) Error → Conduct → Taking
+    → Option (List ℕ) → Option (List ℕ) → Traffic → Traffic → Contents → Type 0
+IsSettledBoard n era remaining held conduct takes old new before after board =
+    (is : IsServedBoard n era remaining held old new board) × NoneOpen board
+    × HasListened conduct takes is.first is.comes.last new before after
 
 -- in a run: no table of it is open, or each worker has taken all of its rounds
 abbrev pub IsRunBoard : {F N : Type 0} → Answering N → Settling → List N → (F → Option (List ℕ))
@@ -68,16 +73,17 @@ pub record CoordinatesTree (n : ℕ) (IsKept : Contents → Type 0) (o : Outcome
   pub ends : o ≡ outcome_by status Nothing
 
 -- from the ledger that a reader has in its first bytes, of whatever root, a board was loaded; a coordinator that began with it
--- answered in turn, until no table was open; and the report of its board, of the same root, is written, whose ledger it is in
+-- listened to what came over connections, until no table was open; and the report of its board, of the same root, is written, whose ledger it is in
 -- the end where it was all that the ledger held; the outcome is by how it stands
-pub record ReportsPart (IsText : FormText) (era : ℕ) (has : Option (List ℕ)) (limit : ℕ)
-    (before after said new_said : Option (List ℕ)) (o : Outcome) : Type 0 where
+pub record ReportsPart (IsText : FormText) (era : ℕ) (has : Option (List ℕ)) (limit : ℕ) (conduct : Conduct)
+    (takes : Taking) (old new : Traffic) (before after said new_said : Option (List ℕ)) (o : Outcome) : Type 0 where
   pub loaded : Contents
   pub left : Left
   pub loads : IsLoadedFrom has limit loaded left
   pub board : Contents
   pub comes : ComesToHold (started era loaded) board
   pub none_open : NoneOpen board
+  pub listened : HasListened conduct takes (started era loaded) comes.last after old new
   pub reports : ReportsTree IsText loaded.root (λ b. IsOfLedger has limit before → IfSome after (IsLedgerOf b)) said
       new_said board
   pub status : Status
@@ -85,8 +91,14 @@ pub record ReportsPart (IsText : FormText) (era : ℕ) (has : Option (List ℕ))
   pub ends : o ≡ outcome_by status Nothing
 
 -- what ends that early ends it before anything is written, unless a stream fails
-abbrev pub SettlesPart : FormText → ℕ → Option (List ℕ) → ℕ → Option (List ℕ) → Option (List ℕ) → Option (List ℕ)
-    → Option (List ℕ) → Result Outcome Ended → Type 0
-SettlesPart IsText era has limit before after said new_said (Ok o) =
-    ReportsPart IsText era has limit before after said new_said o
-SettlesPart IsText era has limit before after said new_said (Err e) = PrintsNothing e said new_said
+abbrev pub SettlesPart : FormText → ℕ → Option (List ℕ) → ℕ → Conduct → Taking → Traffic → Traffic → Option (List ℕ)
+    → Option (List ℕ) → Option (List ℕ) → Option (List ℕ) → Result Outcome Ended → Type 0
+SettlesPart IsText era has limit conduct takes old new before after said new_said (Ok o) =
+    ReportsPart IsText era has limit conduct takes old new before after said new_said o
+SettlesPart IsText era has limit conduct takes old new before after said new_said (Err e) =
+    PrintsNothing e said new_said
+
+-- a coordinator has begun with the board that was loaded of that ledger
+abbrev pub IsBegunOfPart : ℕ → Option (List ℕ) → ℕ → Coordinating → Type 0
+IsBegunOfPart era has limit first =
+    (loaded : Contents) × (left : Left) × IsLoadedFrom has limit loaded left × (first ≡ started era loaded)

@@ -1,10 +1,13 @@
 // `bb work`: the workers of a process, over a stream to their coordinator.
-ghost use Rattle.std.specs.Prelude.{◌≡◌, ◌≢◌, Ok, IfOk};
+ghost use Rattle.std.specs.Prelude.{◌≡◌, ◌≢◌, ◌≤◌, ◌+◌, Ok, IfErr, IfOk, OnOk};
+ghost use Rattle.peers.specs.Due.{capped_sum};
 ghost use Rattle.peers.specs.Waiting.{waits_of};
+ghost use Rattle.cmd_nodes.specs.Calls.{EndsTalk, GivesUp, IsOwnFault};
 
 use crate::answerer::{Answered, Answerer};
+use crate::caller::{CoordinatorCaller, Destination};
 use crate::faults::in_memory;
-use crate::network::{Destination, Network};
+use crate::network::Network;
 use crate::pause::Pause;
 use crate::two_streams::TwoStreams;
 use cmd_options::{Ended, Outcome};
@@ -18,15 +21,6 @@ use wire::{LedgerOut, MAX_PIECE_BYTES, MemLink, Node, TurnFault};
 
 // The longest wait before it is tried again to connect, in seconds.
 const MOST_SECONDS: u64 = 60;
-
-// How a conversation with a coordinator ended.
-#[derive(Clone, Copy, Debug, PartialEq, Eq)]
-enum Parting {
-    // Each worker was told to stop.
-    Stopped,
-    // The stream ended or failed before that.
-    Lost,
-}
 
 // What came of a call.
 #[derive(Clone, Copy, Debug, PartialEq, Eq)]
@@ -48,36 +42,37 @@ pub fn work_between<N: Node, L: LedgerOut, R: Read, W: Write, H: Network + Clock
     output: &mut W,
     host: &H,
 ) -> Result<Outcome, Ended>
-    ensures { IfOk result (λ o. (o ≡ Outcome.Accepted) × (waits_of pool.new.crew.cores ≡ Waits.Nothing)) }
+    ensures ok { IfOk result (λ o. (o ≡ Outcome.Accepted) × (waits_of pool.new.crew.cores ≡ Waits.Nothing)) }
+    ensures err { IfErr result EndsTalk }
 {
     let mut stream = TwoStreams { input, output };
-    match converse(alloc, pool, &mut stream, host)? {
-        Parting::Stopped => Ok(Outcome::Accepted),
-        Parting::Lost => Err(Ended::Stream),
-    }
+    converse(alloc, pool, &mut stream, host)?;
+    Ok(Outcome::Accepted)
 }
 
 /// Works for a coordinator. A connection that can't be had, or is lost, is tried again after 1, 2, 4 seconds and so on, at most
 /// a minute, and so is one with something that isn't that coordinator. Accepted once each worker was told to stop; `Stream`
-/// where so many in a row found none.
-pub fn work_at<N: Node, L: LedgerOut, H: Network + Clock>(
+/// where so many in a row found none, and no sooner than after so many calls.
+pub fn work_at<N: Node, L: LedgerOut, H: Network + Clock, K: CoordinatorCaller>(
     alloc: Global,
     pool: &mut Pool<N, L>,
     host: &H,
+    caller: &mut K,
     to: Destination<'_>,
     tries: u64,
 ) -> Result<Outcome, Ended>
-    ensures { IfOk result (λ o. (o ≡ Outcome.Accepted) × (waits_of pool.new.crew.cores ≡ Waits.Nothing)) }
+    ensures ok { IfOk result (λ o. (o ≡ Outcome.Accepted) × (waits_of pool.new.crew.cores ≡ Waits.Nothing)) }
+    ensures err { IfErr result (GivesUp tries (K.calls caller.old) (K.calls caller.new)) }
 {
     let mut failed: u64 = 0;
-    for _ in 0..u64::MAX {
-        match call_once(alloc, pool, host, to)? {
-            Called::Stopped => return Ok(Outcome::Accepted),
-            Called::Lost => failed = 1,
-            Called::Unanswered => failed = failed.saturating_add(1),
+    for made in 0..u64::MAX {
+        let called = call_once(alloc, pool, host, caller, to)?;
+        if called == Called::Stopped {
+            return Ok(Outcome::Accepted);
         }
+        failed = failed_by(called, failed);
         if failed >= tries {
-            break;
+            return Err(Ended::Stream);
         }
         let wait = wait_after(failed);
         host.tell_again(wait);
@@ -86,23 +81,37 @@ pub fn work_at<N: Node, L: LedgerOut, H: Network + Clock>(
     Err(Ended::Stream)
 }
 
-// Connects once with what listens at an address, and works as long as a coordinator answers there.
-fn call_once<N: Node, L: LedgerOut, H: Network + Clock>(
+// How many tries in a row have failed with one more: it is the first one where a coordinator had answered.
+fn failed_by(called: Called, failed: u64) -> u64
+    ensures { result ≤ failed + 1 }
+{
+    match called {
+        Called::Stopped | Called::Lost => 1,
+        Called::Unanswered => failed.saturating_add(1),
+    }
+}
+
+// Calls what listens at an address once, and works as long as a coordinator answers there.
+fn call_once<N: Node, L: LedgerOut, H: Network + Clock, K: CoordinatorCaller>(
     alloc: Global,
     pool: &mut Pool<N, L>,
     host: &H,
+    caller: &mut K,
     to: Destination<'_>,
 ) -> Result<Called, Ended>
-    ensures { result ≡ Ok Called.Stopped → waits_of pool.new.crew.cores ≡ Waits.Nothing }
+    ensures stopped { result ≡ Ok Called.Stopped → waits_of pool.new.crew.cores ≡ Waits.Nothing }
+    ensures count { K.calls caller.new ≡ capped_sum (K.calls caller.old) 1 }
+    ensures err { IfErr result IsOwnFault }
 {
-    let Ok(stream) = host.call(to) else {
+    let Ok(stream) = caller.call(to) else {
         return Ok(Called::Unanswered);
     };
     pool.reconnect();
     let mut answered = Answered::over(alloc, stream);
-    match converse(alloc, pool, &mut answered, host)? {
-        Parting::Stopped => Ok(Called::Stopped),
-        Parting::Lost => Ok(lost(alloc, host, to.address, &answered)?),
+    match converse(alloc, pool, &mut answered, host) {
+        Ok(()) => Ok(Called::Stopped),
+        Err(Ended::Stream) => Ok(lost(alloc, host, to.address, &answered)?),
+        Err(ended) => Err(ended),
     }
 }
 
@@ -160,14 +169,15 @@ fn wait_after(failed: u64) -> Duration {
     Duration::from_secs(seconds)
 }
 
-// Works over a stream, until each worker is told to stop, or the stream is lost.
+// Works over a stream, until each worker is told to stop. `Stream` where the stream is lost before that, or the clock fails.
 fn converse<N: Node, L: LedgerOut, S: Read + Write, H: Network + Clock>(
     alloc: Global,
     pool: &mut Pool<N, L>,
     stream: &mut S,
     host: &H,
-) -> Result<Parting, Ended>
-    ensures { result ≡ Ok Parting.Stopped → waits_of pool.new.crew.cores ≡ Waits.Nothing }
+) -> Result<(), Ended>
+    ensures ok { OnOk result (waits_of pool.new.crew.cores ≡ Waits.Nothing) }
+    ensures err { IfErr result EndsTalk }
 {
     let mut link = MemLink::new(alloc);
     let mut pause = Pause::new(host)?;
@@ -177,45 +187,39 @@ fn converse<N: Node, L: LedgerOut, S: Read + Write, H: Network + Clock>(
             pool.wake();
         }
         kept(pool.work(&mut link))?;
-        if stream.write_all(link.sent()).is_err() || stream.flush().is_err() {
-            break;
-        }
+        stream.write_all(link.sent())?;
+        stream.flush()?;
         link.clear_sent();
         match pool.waits() {
-            Waits::Nothing => return Ok(Parting::Stopped),
+            Waits::Nothing => return Ok(()),
             Waits::Later => {
                 host.tell_idle(pause.is_longest());
                 pause.wait()?;
             }
-            Waits::Answers => {
-                if !hear(pool, stream, &mut link)? {
-                    break;
-                }
-            }
+            Waits::Answers => hear(pool, stream, &mut link)?,
         }
     }
-    Ok(Parting::Lost)
+    Err(Ended::Stream)
 }
 
-// Takes what came from the coordinator. Whether the stream goes on.
+// Takes what came from the coordinator. `Stream` where the stream has ended or failed.
 fn hear<N: Node, L: LedgerOut, S: Read>(
     pool: &mut Pool<N, L>,
     stream: &mut S,
     link: &mut MemLink,
-) -> Result<bool, Ended> {
+) -> Result<(), Ended>
+    ensures { IfErr result EndsTalk }
+{
     let mut piece = [0; MAX_PIECE_BYTES];
     match stream.read(&mut piece) {
-        Ok(0) => Ok(false),
-        Ok(count) => {
-            kept(pool.hear(&piece[..count], link))?;
-            Ok(true)
-        }
+        Ok(0) => Err(Ended::Stream),
+        Ok(count) => kept(pool.hear(&piece[..count], link)),
         // What was sent is sent again: an answer may be lost, or the coordinator be busy.
         Err(fault) if has_waited(&fault) => {
             pool.forget_due();
-            Ok(true)
+            Ok(())
         }
-        Err(_) => Ok(false),
+        Err(_) => Err(Ended::Stream),
     }
 }
 
@@ -228,7 +232,9 @@ fn has_waited(fault: &io::Error) -> bool {
 }
 
 // The link of a pool is in memory.
-fn kept(done: Result<(), TurnFault>) -> Result<(), Ended> {
+fn kept(done: Result<(), TurnFault>) -> Result<(), Ended>
+    ensures { IfErr result IsOwnFault }
+{
     match done {
         Ok(()) => Ok(()),
         Err(fault) => Err(in_memory(fault)),

@@ -1,10 +1,15 @@
 // `bb coord --listen`: a coordinator whose workers connect, and then the report.
-ghost use Rattle.std.specs.Prelude.{◌≤◌, IfOk, OnOk};
+ghost use Rattle.std.specs.Prelude.{◌≡◌, ◌≤◌, [], None, IfOk, OnErr, OnOk};
 ghost use Rattle.machine_text.specs.Limits.{state_limit};
 ghost use Rattle.machine_text.specs.Packed.{empty_table};
 ghost use Rattle.cmd_ledgers.specs.Settled.{SettlesTree};
-ghost use Rattle.cmd_nodes.specs.Served.{Becomes};
-ghost use Rattle.cmd_nodes.specs.Settled.{IsSettledBoard, SettlesPart};
+ghost use Rattle.lease_core.specs.CoordinatorRules.{Coordinating, On};
+ghost use Rattle.peers.specs.Connections.{TakesAsBefore};
+ghost use Rattle.peers.specs.Guarded.{unheard};
+ghost use Rattle.peers.specs.Served.{Served, served};
+ghost use Rattle.cmd_nodes.specs.Listened.{HasListened, Listens, ListensFrom, ListensUntil, traffic};
+ghost use Rattle.cmd_nodes.specs.Served.{Becomes, IsBegunFrom};
+ghost use Rattle.cmd_nodes.specs.Settled.{IsBegunOfPart, IsSettledBoard, SettlesPart};
 ghost use Rattle.cmd_nodes.specs.inside.{IsServed, IsSettled, KeepsStep};
 
 use crate::coord::{start_coordinator, start_part};
@@ -42,6 +47,9 @@ pub struct Serving<'a, P> {
 /// table is open, and each worker is gone or 5 seconds are over. The coordinator's board begins with what `held` reads, and its
 /// records go to `ledger`, each before it is acknowledged. Accepted where the board is complete at the end. How far it is goes
 /// to `progress`.
+///
+/// Whatever comes over the connections is answered as the coordinator answers, and those that asked are sent as much of the
+/// answers as they take; nothing else is sent. So it is until this ends, early too, but for what came last then.
 pub fn serve_tree<
     P: ReportForm,
     F: Read + Drop,
@@ -59,13 +67,21 @@ pub fn serve_tree<
     answers: &mut W,
 ) -> Result<Outcome, Ended>
     requires { (1 ≤ serving.beginning.states) × (serving.beginning.states ≤ state_limit) }
-    ensures { SettlesTree (P.is_text serving.entry.form.now) serving.entry.beginning.states
-        (IsSettledBoard serving.entry.beginning.states serving.entry.beginning.era F.remaining held (L.text ledger.old)
-        (L.text ledger.new)) (W.contents answers.old) (W.contents answers.new) result }
+    ensures settles { SettlesTree (P.is_text serving.entry.form.now) serving.entry.beginning.states
+        (IsSettledBoard serving.entry.beginning.states serving.entry.beginning.era F.remaining held
+        serving.entry.conduct (K.takes connections.old) (L.text ledger.old) (L.text ledger.new)
+        (traffic (K.arrived connections.old) (K.sent connections.old))
+        (traffic (K.arrived connections.new) (K.sent connections.new)))
+        (W.contents answers.old) (W.contents answers.new) result }
+    ensures early { OnErr result (ListensUntil
+        (IsBegunFrom serving.entry.beginning.states serving.entry.beginning.era F.remaining held)
+        serving.entry.conduct (K.takes connections.old)
+        (traffic (K.arrived connections.old) (K.sent connections.old))
+        (traffic (K.arrived connections.new) (K.sent connections.new))) }
 {
     let node = start_coordinator(alloc, serving.beginning, held, ledger)?;
     let Serving { form, conduct, .. } = serving;
-    let guarded = served(alloc, node, conduct, ledger, connections, progress)?;
+    let guarded = serve_connected(alloc, node, conduct, ledger, connections, progress)?;
     let last = guarded.node();
     report_board(alloc, form, last, answers)
 }
@@ -100,18 +116,26 @@ pub fn serve_part<
     progress: &mut G,
     answers: &mut W,
 ) -> Result<Outcome, Ended>
-    ensures { SettlesPart (P.is_text serving.entry.form.now) serving.entry.era (F.remaining held.reader) held.length
+    ensures settles { SettlesPart (P.is_text serving.entry.form.now) serving.entry.era (F.remaining held.reader)
+        held.length serving.entry.conduct (K.takes connections.old)
+        (traffic (K.arrived connections.old) (K.sent connections.old))
+        (traffic (K.arrived connections.new) (K.sent connections.new))
         (L.text ledger.old) (L.text ledger.new) (W.contents answers.old) (W.contents answers.new) result }
+    ensures early { OnErr result (ListensUntil
+        (IsBegunOfPart serving.entry.era (F.remaining held.reader) held.length) serving.entry.conduct
+        (K.takes connections.old)
+        (traffic (K.arrived connections.old) (K.sent connections.old))
+        (traffic (K.arrived connections.new) (K.sent connections.new))) }
 {
     let node = start_part(alloc, serving.era, held, ledger)?;
     let ServingPart { form, conduct, .. } = serving;
-    let guarded = served(alloc, node, conduct, ledger, connections, progress)?;
+    let guarded = serve_connected(alloc, node, conduct, ledger, connections, progress)?;
     let last = guarded.node();
     report_board(alloc, form, last, answers)
 }
 
 // Serves workers that connect with a coordinator, behind a guard for each.
-fn served<L: LedgerOut, K: Connections, G: Progress>(
+fn serve_connected<L: LedgerOut, K: Connections, G: Progress>(
     alloc: Global,
     node: Coordinator,
     conduct: Conduct,
@@ -121,6 +145,14 @@ fn served<L: LedgerOut, K: Connections, G: Progress>(
 ) -> Result<Guarded<Coordinator>, Ended>
     ensures served { IfOk result (λ guarded. IsServed node guarded.node (L.text ledger.old) (L.text ledger.new)) }
     ensures settled { IfOk result (λ guarded. IsSettled guarded.node) }
+    ensures listened { IfOk result (λ guarded. HasListened conduct (K.takes connections.old) node guarded.node
+        (L.text ledger.new)
+        (traffic (K.arrived connections.old) (K.sent connections.old))
+        (traffic (K.arrived connections.new) (K.sent connections.new))) }
+    ensures early { OnErr result (ListensFrom On (K.takes connections.old)
+        (served (unheard conduct node) (L.text ledger.old) [])
+        (traffic (K.arrived connections.old) (K.sent connections.old))
+        (traffic (K.arrived connections.new) (K.sent connections.new))) }
 {
     let mut guarded = Guarded::new(alloc, node, conduct);
     serve_workers(alloc, &mut guarded, ledger, connections, progress)?;
@@ -137,6 +169,14 @@ fn serve_workers<L: LedgerOut, K: Connections, G: Progress>(
 ) -> Result<(), Ended>
     ensures served { OnOk result (IsServed node.old.node node.new.node (L.text ledger.old) (L.text ledger.new)) }
     ensures settled { OnOk result (IsSettled node.new.node) }
+    ensures listens { OnOk result ((new : Served Coordinating) × (new.node ≡ node.new)
+        × (new.text ≡ L.text ledger.new)
+        × Listens On (K.takes connections.old) (served node.old (L.text ledger.old) []) new None
+        (traffic (K.arrived connections.old) (K.sent connections.old))
+        (traffic (K.arrived connections.new) (K.sent connections.new))) }
+    ensures early { OnErr result (ListensFrom On (K.takes connections.old) (served node.old (L.text ledger.old) [])
+        (traffic (K.arrived connections.old) (K.sent connections.old))
+        (traffic (K.arrived connections.new) (K.sent connections.new))) }
 {
     let mut piece = vec![in alloc; 0; PIECE_BYTES]?;
     let mut peers = Peers::new(alloc);
@@ -162,7 +202,16 @@ fn serve_once<L: LedgerOut, K: Connections>(
     node: &mut Guarded<Coordinator>,
     ledger: &mut L,
 ) -> Result<(), Ended>
-    ensures { OnOk result (IsServed node.old.node node.new.node (L.text ledger.old) (L.text ledger.new)) }
+    ensures served { OnOk result (IsServed node.old.node node.new.node (L.text ledger.old) (L.text ledger.new)) }
+    ensures listens { OnOk result (Listens On (K.takes connections.old)
+        (served node.old (L.text ledger.old) peers.old) (served node.new (L.text ledger.new) peers.new) None
+        (traffic (K.arrived connections.old) (K.sent connections.old))
+        (traffic (K.arrived connections.new) (K.sent connections.new))) }
+    ensures early { OnErr result (ListensFrom On (K.takes connections.old)
+        (served node.old (L.text ledger.old) peers.old)
+        (traffic (K.arrived connections.old) (K.sent connections.old))
+        (traffic (K.arrived connections.new) (K.sent connections.new))) }
+    ensures takes { TakesAsBefore (K.takes connections.old) (K.takes connections.new) }
 {
     match serve_next(connections, piece, peers, node, ledger) {
         Ok(()) => Ok(()),
@@ -181,6 +230,15 @@ fn serve_next<N: Node, L: LedgerOut, K: Connections>(
     ensures became { OnOk result (Becomes N.answers node.old.node node.new.node) }
     ensures step { OnOk result
         (KeepsStep N.in_step node.old.node node.new.node (L.text ledger.old) (L.text ledger.new)) }
+    ensures listens { OnOk result (Listens N.answers (K.takes connections.old)
+        (served node.old (L.text ledger.old) peers.old) (served node.new (L.text ledger.new) peers.new) None
+        (traffic (K.arrived connections.old) (K.sent connections.old))
+        (traffic (K.arrived connections.new) (K.sent connections.new))) }
+    ensures early { OnErr result (ListensFrom N.answers (K.takes connections.old)
+        (served node.old (L.text ledger.old) peers.old)
+        (traffic (K.arrived connections.old) (K.sent connections.old))
+        (traffic (K.arrived connections.new) (K.sent connections.new))) }
+    ensures takes { TakesAsBefore (K.takes connections.old) (K.takes connections.new) }
 {
     serve(connections, piece, peers, node, ledger, 1)?;
     Ok(())

@@ -1,6 +1,7 @@
 // Where coordinators and workers of other computers are met.
+use crate::caller::CoordinatorCaller;
 use peers::Connections;
-use std::io::{self, Read, Write};
+use std::io;
 use std::time::Duration;
 
 /// Whom a coordinator lets in.
@@ -12,20 +13,11 @@ pub struct Admission {
     pub per_address: u64,
 }
 
-/// Where a coordinator is called.
-#[derive(Clone, Copy)]
-pub struct Destination<'a> {
-    /// The address at which it listens.
-    pub address: &'a str,
-    /// The token that it has to show, and is shown; none where it may be any.
-    pub token: Option<&'a [u8]>,
-}
-
 /// A network, in which a coordinator listens at an address and workers call it there.
 pub trait Network {
     type Connections: Connections + Drop;
 
-    type Stream: Read + Write + Drop;
+    type Caller: CoordinatorCaller + Drop;
 
     /// The bytes of the file of a token. Where others can read it, that is said at a terminal.
     fn token_at(&self, path: &str) -> io::Result<Vec<u8>>;
@@ -33,9 +25,8 @@ pub trait Network {
     /// The workers that connect at an address from now on, and are let in.
     fn listen_at(&self, address: &str, admission: Admission) -> io::Result<Self::Connections>;
 
-    /// A connection with a coordinator. A read for which nothing comes for long ends with `WouldBlock`, and so does a write for
-    /// which nothing is taken.
-    fn call(&self, to: Destination<'_>) -> io::Result<Self::Stream>;
+    /// One who calls coordinators.
+    fn caller(&self) -> Self::Caller;
 
     /// Remembers why a connection with what listens at an address is of no use any more.
     fn remember_loss(&self, address: &str, why: &str);

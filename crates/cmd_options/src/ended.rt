@@ -1,9 +1,10 @@
 // What ends a command before its work is done.
 ghost use Rattle.std.specs.Prelude.{◌≡◌, ◌⊎◌};
-ghost use Rattle.std.specs.Io.KnownBytes.{Appends};
 ghost use Rattle.cmd_options.specs.Outcome.{ended_text, outcome_of};
+ghost use Rattle.cmd_options.specs.Ends.{IsTold};
 
 use crate::outcome::Outcome;
+use crate::writing::write_in_full;
 use std::alloc::AllocError as NoMemory;
 use std::io::{self, Write};
 
@@ -64,11 +65,9 @@ impl Ended {
 
     /// Says why a command ended, on a line; where that can't be said either, a stream has failed.
     pub fn told<E: Write>(self, faults: &mut E) -> Outcome
-        ensures outcome { (result ≡ outcome_of self) ⊎ (result ≡ Outcome.Failed) }
-        ensures said { Appends (E.contents faults.old) (E.contents faults.new) (ended_text self)
-            ⊎ (result ≡ Outcome.Failed) }
+        ensures { IsTold self (E.contents faults.old) (E.contents faults.new) result }
     {
-        match faults.write_all(self.line()) {
+        match write_in_full(self.line(), faults) {
             Ok(()) => self.outcome(),
             Err(_) => Outcome::Failed,
         }

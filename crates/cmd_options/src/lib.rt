@@ -14,6 +14,7 @@ mod options;
 mod outcome;
 mod stopped;
 mod version;
+mod writing;
 
 pub use drawing::Drawing;
 pub use ended::Ended;
@@ -30,3 +31,4 @@ pub use outcome::Outcome;
 pub use std::alloc::AllocError as NoMemory;
 pub use stopped::Stopped;
 pub use version::{VERSION, release};
+pub use writing::write_in_full;

@@ -71,7 +71,7 @@ counted_page heading root rs left text census counted limit page =
     let found = census_numbers census in
     let total = record_count told.tally in
     let kinds = same_kinds total found.kinds (of_kind rs) counted.kinds in
-    let entries = same_numbers (λ k. count_html (decimal k)) found.entries (with_entries rs) 0 (2 * n + 1) (λ k within. counted.entries k (omega (arith, within, limit, same_root))) in
+    let entries = same_numbers (λ k m. where_some m (count_html (decimal k) m)) found.entries (with_entries rs) 0 (2 * n + 1) (λ k within. counted.entries k (omega (arith, within, limit, same_root))) in
     let census_is : census_html n total found.kinds found.entries ≡ census_html n total (of_kind rs) (with_entries rs) =
     ap (λ (l : List ℕ). concat (KINDS.now ∷ l ∷ ENTRIES.now ∷ entries_html n found.entries ∷ ROWS_END.now ∷ [])) kinds
     ∙ ap (λ (l : List ℕ). concat (KINDS.now ∷ kinds_html total (of_kind rs) ∷ ENTRIES.now ∷ l ∷ ROWS_END.now ∷ [])) entries in

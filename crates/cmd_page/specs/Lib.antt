@@ -14,5 +14,5 @@ pub mod Counting
 pub mod inside
 pub mod Sums
 pub mod Folder
-pub mod Section
+pub mod RecordRow
 pub mod Records

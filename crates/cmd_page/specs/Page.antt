@@ -90,9 +90,12 @@ kind_html total n letter = where_some n (count_html (kind_label letter) n ++ mea
 abbrev pub kinds_html : ℕ → (ℕ → ℕ) → List ℕ
 kinds_html total number = flat_map (λ letter. kind_html total (number letter) letter) kind_letters
 
--- a row for each number of entries that a table of n states may have
+-- a row for each number of entries that a table of n states may have, where there are some
+abbrev pub entry_row_html : (ℕ → ℕ) → ℕ → List ℕ
+entry_row_html number k = where_some (number k) (count_html (decimal k) (number k))
+
 abbrev pub entries_html : ℕ → (ℕ → ℕ) → List ℕ
-entries_html n number = flat_map (λ k. count_html (decimal k) (number k)) (range_with_len 0 (2 * n + 1))
+entries_html n number = flat_map (λ k. entry_row_html number k) (range_with_len 0 (2 * n + 1))
 
 unfoldable pub census_html : ℕ → ℕ → (ℕ → ℕ) → (ℕ → ℕ) → List ℕ
 census_html n total kinds entries =

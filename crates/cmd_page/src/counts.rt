@@ -1,7 +1,8 @@
 // The rows of what is counted.
-ghost use Rattle.std.specs.Prelude.{◌≡◌, ◌++◌, ◌≤◌, slice_index, OnOk};
+ghost use Rattle.std.specs.Prelude.{◌≡◌, ◌++◌, ◌≤◌, decimal, slice_index, OnOk};
 ghost use Rattle.machine_text.specs.Limits.{state_limit};
 ghost use Rattle.cmd_page.specs.Page.{census_html, entries_html, kind_html, kinds_html, means_html, where_some};
+ghost use Rattle.cmd_page.specs.Row.{count_html};
 
 use crate::census::Census;
 use crate::kind_words::kind_words;
@@ -67,13 +68,23 @@ fn append_means(total: u64, n: u64, words: &str, out: &mut Vec<u8>) -> Result<()
     .map_err(|_| NoMemory)
 }
 
-// Appends a row for each number of entries.
+// Appends a row for each number of entries, where there are records of such tables.
 fn append_entries(states: u8, entries: &[u64; 15], out: &mut Vec<u8>) -> Result<(), NoMemory>
     requires { states ≤ state_limit }
     ensures { OnOk result (out.new.items ≡ out.old.items ++ entries_html states (slice_index entries.now)) }
 {
     for k in 0..2 * states as usize + 1 {
-        append_numbered(k as u64, entries[k], out)?;
+        append_entry(k as u64, entries[k], out)?;
     }
     Ok(())
+}
+
+// Appends the row of a number of entries, where there are records of such tables.
+fn append_entry(entries: u64, n: u64, out: &mut Vec<u8>) -> Result<(), NoMemory>
+    ensures { OnOk result (out.new.items ≡ out.old.items ++ where_some n (count_html (decimal entries) n)) }
+{
+    if n == 0 {
+        return Ok(());
+    }
+    append_numbered(entries, n, out)
 }

@@ -6,7 +6,7 @@
 //!   holdouts, a row each, in the order of their texts.
 //! - A folder's: `specs/Folder`, the page of one ledger that holds the records of a trunk and of all its parts;
 //!   `specs/Counting` says which records a `Census` has counted that is made of many boards.
-//! - Of records: `specs/Records`, a section for each line of a stream (`specs/Section`).
+//! - Of records: `specs/Records`, a row for each line of a stream (`specs/RecordRow`).
 //!
 //! `specs/Heading` says what a page tells of the program and the ledgers that it is made from, so that it can be cited,
 //! `specs/Sums` which bytes are summed for that. `style` has how a page looks and the texts that are the same on each,
@@ -31,10 +31,10 @@ mod listed;
 mod making;
 mod markup;
 mod page;
+mod record_row;
 mod records;
 mod rows;
 mod script;
-mod section;
 mod sentence;
 mod steps;
 mod style;

@@ -1,10 +1,11 @@
 // The page of a stream of records.
 ghost use Rattle.std.specs.Prelude.{◌≡◌, ◌⊎◌, IfErr, IfOk};
-ghost use Rattle.cmd_page.specs.Records.{WritesRecords, records_head_html, records_heading, records_tail_html};
+ghost use Rattle.cmd_page.specs.Records.{WritesRecords, records_head_html, records_heading};
 
 use crate::heading::{Heading, LedgerSum, Maker, append_origin};
-use crate::section::append_section;
-use crate::style::ENDING;
+use crate::record_row::append_record_row;
+use crate::script::SCRIPT;
+use crate::style::{RECORD_ROWS, RECORDS};
 use crate::summary::append_opening;
 use cmd_lines::{PIECE_BYTES, Sayer, say_lines};
 use cmd_options::{Ended, Outcome};
@@ -12,9 +13,9 @@ use kind_evidence::NoMemory;
 use std::alloc::Global;
 use std::io::{Read, Write};
 
-/// Reads a record a line and writes one page with a section for each, under a title of any bytes. A section is written as
+/// Reads a record a line and writes one page with a row for each, under a title of any bytes. A row is written as
 /// soon as its piece of the stream was taken; a last line without newline is read too. A line that is refused has a
-/// section too, and makes the outcome that something was refused.
+/// row too, and makes the outcome that something was refused.
 pub fn record_page_for<R: Read, W: Write>(
     alloc: Global,
     title: &str,
@@ -31,52 +32,41 @@ pub fn record_page_for<R: Read, W: Write>(
         maker: *maker,
         ledgers: LedgerSum::NoLedger,
     };
-    let head = head_of(alloc, title)?;
-    let tail = tail_of(alloc, &heading)?;
+    let head = head_of(alloc, &heading)?;
     answers.write_all(&head)?;
-    let (outcome, _) = say_lines(alloc, Sections { alloc }, PIECE_BYTES, input, answers)?;
-    answers.write_all(&tail)?;
+    let (outcome, _) = say_lines(alloc, Rows { alloc }, PIECE_BYTES, input, answers)?;
+    answers.write_all(SCRIPT)?;
     Ok(outcome)
 }
 
-// What stands before the sections.
-fn head_of(alloc: Global, title: &str) -> Result<Vec<u8>, NoMemory>
-    ensures { IfOk result (λ html. html.items ≡ records_head_html title.now) }
+// What stands before the rows: what the page is made by.
+fn head_of(alloc: Global, heading: &Heading<'_>) -> Result<Vec<u8>, NoMemory>
+    ensures { IfOk result (λ html. html.items ≡ records_head_html heading.now) }
 {
     let mut html = Vec::new(alloc);
-    append_opening(title.as_bytes(), &mut html)?;
-    html.extend_from_slice(b"</h1>\n</header>\n<main>\n")?;
-    Ok(html)
-}
-
-// What stands behind them.
-fn tail_of(alloc: Global, heading: &Heading<'_>) -> Result<Vec<u8>, NoMemory>
-    ensures { IfOk result (λ html. html.items ≡ records_tail_html heading.now) }
-{
-    let mut html = Vec::new(alloc);
-    html.extend_from_slice(b"<section class='record'>\n<table>\n")?;
+    append_opening(heading.title.as_bytes(), &mut html)?;
+    html.extend_from_slice(RECORDS)?;
     append_origin(heading, &mut html)?;
-    html.extend_from_slice(b"</table>\n</section>\n")?;
-    html.extend_from_slice(ENDING)?;
+    html.extend_from_slice(RECORD_ROWS)?;
     Ok(html)
 }
 
 #[derive(Drop)]
-struct Sections {
+struct Rows {
     alloc: Global,
 }
 
-impl Sayer for Sections {
+impl Sayer for Rows {
     ghost use Rattle.std.specs.Prelude.{◌≡◌};
     ghost use Rattle.cmd_options.specs.declared.ended.Ended.TheVariants.{NoMemory as WantsMemory};
     ghost use Rattle.cmd_lines.specs.Stream.{SaysAnswer};
-    ghost use Rattle.cmd_page.specs.Section.{SaysSection};
+    ghost use Rattle.cmd_page.specs.RecordRow.{SaysRow};
 
-    ghost takes = { SaysAnswer SaysSection };
+    ghost takes = { SaysAnswer SaysRow };
 
     ghost ends = { λ e. e ≡ WantsMemory };
 
     fn take_line(&mut self, line: Option<&[u8]>, said: &mut Vec<u8>) -> Result<Outcome, Ended> {
-        Ok(append_section(self.alloc, line, said)?)
+        Ok(append_record_row(self.alloc, line, said)?)
     }
 }

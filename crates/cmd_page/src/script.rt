@@ -1,10 +1,11 @@
 // What a page does.
 
-// Behind the rows of the holdouts: what searches and sorts them, shows some at a time, and draws their runs. `rows` are the
-// rows, each with its text and what it is sorted by; `told` writes a number as 47,176,870; `show` shows the first rows that
-// match, in their order, and `sort` puts them into that of a column; `timesOf` are the times of a run that are drawn, and
-// `drawing` draws it, a pixel a cell; `addDrawing` puts a button into a row that draws its run. What stands behind the
-// functions makes the tools work and shows them.
+// Behind the rows of the holdouts, or of records: what searches and sorts them, shows some at a time, and draws their runs.
+// `rows` are the rows, each with its table, the text that is searched and what it is sorted by; `recorded` is that of a record,
+// whose table becomes a link, and counts its verdict; `told` writes a number as 47,176,870; `show` shows the first rows that
+// match, in their order, and `sort` puts them into that of a column; `timesOf` are the times of a run that are drawn, each of
+// the first steps where it halts among them, and `drawing` draws it, a pixel a cell; `addDrawing` puts a button into a row that
+// draws its run. What stands behind the functions makes the tools work and shows them.
 pub(crate) const SCRIPT: &[u8] = b"</tbody>\n\
 </table>\n\
 <button type='button' class='more' hidden>Show 500 more</button>\n\
@@ -12,23 +13,42 @@ pub(crate) const SCRIPT: &[u8] = b"</tbody>\n\
 </main>\n\
 <script>\n\
 'use strict';\n\
-const part = document.getElementById('holdouts'), body = part.querySelector('tbody');\n\
+const part = document.querySelector('#holdouts,#records'), body = part.querySelector('tbody');\n\
 const field = part.querySelector('input'), found = part.querySelector('output');\n\
 const more = part.querySelector('.more'), heads = [...part.querySelectorAll('th')];\n\
 const colours = ['#e66950', '#195feb', '#696400', '#d76ebe', '#2391fa', '#a52daa', '#c3870f'];\n\
-const reach = 10000, every = 10, widest = 1200, some = 500;\n\
+const reach = 10000, every = 10, first = 1000, widest = 1200, some = 500;\n\
+const verdicts = ['halts', 'never', 'undecided', 'refused'], counts = new Map();\n\
 const entriesOf = row => Number(row.cells[1].textContent);\n\
-const rows = [...body.rows].map((row, place) => ({row, text: row.id, keys: [place, entriesOf(row)]}));\n\
+const rows = [...body.rows].map(part.id === 'records' ? recorded : heldOut);\n\
 let room = some;\n\
 function told(number) {\n\
 return number.toLocaleString('en');\n\
+}\n\
+function heldOut(row, place) {\n\
+return {row, table: row.id, text: row.id, keys: [place, entriesOf(row)]};\n\
+}\n\
+function recorded(row, place) {\n\
+const [line, shown] = row.cells, [start, second, steps] = shown.textContent.split(/\\s+/);\n\
+const verdict = start === 'refused' ? start : second, table = start === verdict ? '' : start;\n\
+const text = row.textContent.toUpperCase();\n\
+counts.set(verdict, (counts.get(verdict) ?? 0) + 1);\n\
+if (table) {\n\
+const link = document.createElement('a'), [given] = line.textContent.split(' ');\n\
+link.href = 'https://bbchallenge.org/' + table;\n\
+link.append(given);\n\
+line.replaceChildren(link, line.textContent.slice(given.length));\n\
+row.id = table;\n\
+}\n\
+const rank = verdict === 'halts' ? Number(steps) : 1e12 * (1 + verdicts.indexOf(verdict));\n\
+return {row, table, text, keys: [place, rank]};\n\
 }\n\
 function show() {\n\
 const words = field.value.toUpperCase().split(/\\s+/);\n\
 const matches = rows.filter(({text}) => words.every(word => text.includes(word)));\n\
 const shown = document.createDocumentFragment();\n\
-for (const {row} of matches.slice(0, room)) {\n\
-if (!row.querySelector('button')) addDrawing(row);\n\
+for (const {row, table} of matches.slice(0, room)) {\n\
+if (table && !row.querySelector('button')) addDrawing(row, table);\n\
 shown.append(row);\n\
 }\n\
 body.replaceChildren(shown);\n\
@@ -53,9 +73,12 @@ function timesOf(text) {\n\
 const table = text.split('_'), cells = new Uint8Array(2 * reach + 1), times = [];\n\
 let head = reach, state = 0, low = reach, high = reach;\n\
 for (let step = 0; ; step++) {\n\
-if (step % every === 0) times.push({first: low, cells: cells.slice(low, high + 1), head, state});\n\
+if (step <= first || step % every === 0) times.push({step, low, cells: cells.slice(low, high + 1), head, state});\n\
 const entry = table[state].substr(3 * cells[head], 3);\n\
-if (step === reach || entry === '---') return {times, step, low, high};\n\
+if (step === reach || entry === '---') {\n\
+const apart = step <= first ? 1 : every;\n\
+return {times: times.filter(({step}) => step % apart === 0), step, apart, low, high};\n\
+}\n\
 cells[head] = Number(entry[0]);\n\
 head += entry[1] === 'R' ? 1 : -1;\n\
 state = entry.charCodeAt(2) - 65;\n\
@@ -64,30 +87,32 @@ high = Math.max(high, head);\n\
 }\n\
 }\n\
 function drawing(text) {\n\
-const {times, step, low, high} = timesOf(text), visited = high - low + 1;\n\
+const {times, step, apart, low, high} = timesOf(text), visited = high - low + 1;\n\
 const left = Math.max(low, Math.min(reach - widest / 2, high - widest + 1)), width = Math.min(visited, widest);\n\
 const made = document.createElement('div'), canvas = document.createElement('canvas'), pen = canvas.getContext('2d');\n\
 made.className = 'sampled';\n\
 canvas.width = width;\n\
 canvas.height = times.length;\n\
+canvas.style.width = width * Math.max(1, Math.min(6, Math.floor(240 / width))) + 'px';\n\
 canvas.setAttribute('role', 'img');\n\
 canvas.setAttribute('aria-label', 'the run of ' + text);\n\
 const ink = getComputedStyle(part).color;\n\
-times.forEach(({first, cells, head, state}, y) => {\n\
+times.forEach(({low, cells, head, state}, y) => {\n\
 pen.fillStyle = ink;\n\
-cells.forEach((cell, place) => cell && pen.fillRect(first + place - left, y, 1, 1));\n\
+cells.forEach((cell, place) => cell && pen.fillRect(low + place - left, y, 1, 1));\n\
 pen.fillStyle = colours[state];\n\
 pen.fillRect(head - left, y, 1, 1);\n\
 });\n\
-const cells = told(width) + ' of ' + told(visited) + ' cells';\n\
-made.append(canvas, 'The first ' + told(step) + ' steps, a row every ' + every + ', ' + cells);\n\
+const rows = apart > 1 ? 'a row every ' + apart : 'a row each';\n\
+const seen = told(width) + ' of ' + told(visited) + ' cells';\n\
+made.append(canvas, 'Steps 0 to ' + told(step) + ', ' + rows + ', ' + seen);\n\
 return made;\n\
 }\n\
-function addDrawing(row) {\n\
+function addDrawing(row, table) {\n\
 const opener = button(['Run'], () => {\n\
 const shown = row.querySelector('div');\n\
 if (shown) shown.remove();\n\
-else row.cells[0].append(drawing(row.id));\n\
+else row.cells[0].append(drawing(table));\n\
 opener.setAttribute('aria-expanded', !shown);\n\
 });\n\
 opener.setAttribute('aria-expanded', false);\n\
@@ -104,7 +129,12 @@ show();\n\
 });\n\
 part.querySelector('.tools').hidden = false;\n\
 const named = location.hash.slice(1);\n\
-if (rows.some(({text}) => text === named)) field.value = named;\n\
+if (rows.some(({table}) => table === named)) field.value = named;\n\
+for (const verdict of verdicts.filter(verdict => counts.has(verdict))) {\n\
+const made = document.createElement('span');\n\
+made.append(verdict + ' ' + told(counts.get(verdict)) + ' ');\n\
+document.getElementById('verdicts').append(made);\n\
+}\n\
 show();\n\
 </script>\n\
 </body>\n\

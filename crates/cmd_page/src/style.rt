@@ -38,15 +38,15 @@ a{color:var(--link)}\n\
 main{display:grid;grid-template:auto 1fr/repeat(auto-fit,minmax(min(100%,19rem),1fr));gap:2rem}\n\
 section{min-width:0;scroll-margin-top:1rem}\n\
 #status,#kinds{grid-row:span 2}\n\
-#champions,#holdouts,.record{grid-column:1/-1}\n\
-code,pre,td a{font-family:ui-monospace,monospace;font-size:.9rem;overflow-wrap:anywhere}\n\
-pre{margin:0;padding:.5rem .75rem;white-space:pre-wrap;background:var(--raised)}\n\
+#champions,#holdouts,#made,#records{grid-column:1/-1}\n\
+code,td a,#records td:first-child{font-family:ui-monospace,monospace;font-size:.9rem;overflow-wrap:anywhere}\n\
 table{border-collapse:collapse;width:100%}\n\
 th,td{padding:.3rem .75rem .3rem 0;border-bottom:1px solid var(--line);text-align:left;vertical-align:top;font-weight:normal}\n\
 thead th,th button{color:var(--faint)}\n\
 td{font-variant-numeric:tabular-nums}\n\
 #status th{min-width:7.5rem}\n\
 td+td,th+td,thead th+th{text-align:right;padding-right:0}\n\
+#records th+th,#records td+td{width:55%;text-align:left;white-space:pre-line}\n\
 #kinds th,#kinds td{border-bottom:0}\n\
 #kinds .means{padding:0 0 .6rem;font-size:.9rem;color:var(--faint);border-bottom:1px solid var(--line)}\n\
 meter{display:block;width:100%;height:.5rem;margin-bottom:.25rem;appearance:none;background:var(--raised)}\n\
@@ -54,10 +54,10 @@ meter::-webkit-meter-bar{height:.5rem;background:var(--raised);border:0;border-r
 meter::-webkit-meter-optimum-value{background:var(--link)}\n\
 meter::-moz-meter-bar{background:var(--link)}\n\
 .left{padding:.5rem .75rem;background:var(--mark)}\n\
-.words{white-space:pre-line}\n\
 .sampled{margin:.25rem 0;font-size:.9rem;color:var(--faint)}\n\
 .figures{display:flex;flex-wrap:wrap;gap:1.5rem 2rem}\n\
-figure{margin:0;min-width:0;max-width:100%}\n\
+figure{display:flex;flex-wrap:wrap;align-items:start;gap:0 1.5rem;margin:0;min-width:0;max-width:100%}\n\
+figcaption,.sampled{flex:1 1 100%}\n\
 figure svg{display:block;max-width:100%;height:auto;margin-bottom:.5rem;border:1px solid var(--line)}\n\
 .transitions{width:auto;margin:.5rem 0;font-family:ui-monospace,monospace;font-size:.9rem}\n\
 .transitions tr>*{padding:.1rem .7rem;text-align:center;border:1px solid var(--line)}\n\
@@ -176,6 +176,28 @@ pub(crate) const HOLDOUTS: &[u8] = b"<section id='holdouts'>\n\
 </div>\n\
 <table>\n\
 <thead><tr><th scope='col' aria-sort='ascending'>Table</th><th scope='col'>Filled entries</th></tr></thead>\n\
+<tbody>\n";
+
+// Before the rows that say what a page of records is made by; the script says how many have which verdict.
+pub(crate) const RECORDS: &[u8] = b"</h1>\n\
+<p id='verdicts'></p>\n\
+</header>\n\
+<main>\n\
+<section id='made'>\n\
+<table>\n";
+
+// Behind those, before the rows of the records.
+pub(crate) const RECORD_ROWS: &[u8] = b"</table>\n\
+</section>\n\
+<section id='records'>\n\
+<h2>Records</h2>\n\
+<div class='tools' hidden>\n\
+<label for='search'>Search</label>\n\
+<input type='search' id='search' autocomplete='off' spellcheck='false' placeholder='part of a record, or several'>\n\
+<output for='search'></output>\n\
+</div>\n\
+<table>\n\
+<thead><tr><th scope='col' aria-sort='ascending'>Record</th><th scope='col'>Shown</th></tr></thead>\n\
 <tbody>\n";
 
 // The end of a page without a script.

@@ -8,8 +8,10 @@ pub mod SettledAt
 pub mod SplitAt
 pub mod JoinAt
 mod Headers
+mod Sparing
 mod Taking
 mod Telling
+mod TellingFirst
 pub mod Claims
 pub mod Extending
 pub mod Kept
@@ -17,3 +19,4 @@ pub mod Parts
 pub mod Printing
 pub mod Answered
 pub mod Reports
+mod FirstLedgers

@@ -31,7 +31,7 @@ no_lines ((x ∷ xs) ∷ lines) e = absurd cc
 head_more : (text more : List ℕ) → IsHead text → IsHead (text ++ more)
 head_more text more (format, rest, is) = (format, rest ++ more, ap (λ (t : List ℕ). t ++ more) is ∙ append_assoc (header_words format) rest more)
 
-begins_more : (text : List ℕ) (ledgers : List (List ℕ)) (rest more : List ℕ) → BeginsWithLedgers text ledgers rest → BeginsWithLedgers (text ++ more) ledgers (rest ++ more)
+pub begins_more : (text : List ℕ) (ledgers : List (List ℕ)) (rest more : List ℕ) → BeginsWithLedgers text ledgers rest → BeginsWithLedgers (text ++ more) ledgers (rest ++ more)
 begins_more text [] rest more is = ap (λ (t : List ℕ). t ++ more) is
 begins_more text (ledger ∷ ledgers) rest more (behind, is, whole, head, later) = (
   behind ++ more,

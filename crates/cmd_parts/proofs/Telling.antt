@@ -23,7 +23,7 @@ use Rattle.cmd_options.specs.declared.outcome.Outcome.{Outcome}
 use Rattle.cmd_parts.specs.Join.{TellsParts, counted_part, is_silent, left_line, line_behind}
 use Rattle.cmd_parts.proofs.JoinedParts.{sound_both, sound_first}
 use Rattle.cmd_parts.specs.Ledgers.{AreLedgers}
-use Rattle.cmd_parts.specs.Stream.{AreLedgersMet, AreMissed, IsLoadedAs, IsLedgerMet, IsMissed, JoinsStream, TellsStream, name_of, roots_of}
+use Rattle.cmd_parts.specs.Stream.{AreLedgersMet, AreMissed, IsLoadedAs, IsLedgerMet, IsMissed, JoinsStream, TellsStream, WarnsOfFirst, name_of, roots_of}
 use Rattle.cmd_parts.specs.inside.Joining.{AddsBoard, AddsLedger, AddsPart, BeginsTrunk, Joins, JoinsTo, SaysAdding, SaysMissed, SaysRoot}
 use Rattle.cmd_parts.specs.inside.Taking.{LedgersAreTaken, TakesLedgers}
 use Rattle.cmd_parts.specs.declared.joiner.Joiner.{Joiner}
@@ -80,11 +80,11 @@ roots_push [] part = refl
 roots_push (p ∷ parts) part = ap (λ (l : List Packed). p.root ∷ l) (roots_push parts part)
 
 -- one ledger behind the trunk
-record IsOneMet (trunk : Contents) (parts : List Contents) (number : ℕ) (text : List ℕ) (new : Collected) (new_came : List Packed) (counted : Option Contents) (said : List ℕ) : Type 0 where
-  trunk_is : new.trunk ≡ trunk
-  is_whole : IsWhole new (parts ++ counted_part counted)
-  came : new_came ≡ roots_of (parts ++ counted_part counted)
-  is_met : IsLedgerMet trunk parts number text counted said
+pub record IsOneMet (trunk : Contents) (parts : List Contents) (number : ℕ) (text : List ℕ) (new : Collected) (new_came : List Packed) (counted : Option Contents) (said : List ℕ) : Type 0 where
+  pub trunk_is : new.trunk ≡ trunk
+  pub is_whole : IsWhole new (parts ++ counted_part counted)
+  pub came : new_came ≡ roots_of (parts ++ counted_part counted)
+  pub is_met : IsLedgerMet trunk parts number text counted said
 
 none_counts : (trunk : Contents) (parts : List Contents) (number : ℕ) (text : List ℕ) (old new : Collected) (came new_came : List Packed) (said : List ℕ) → old.trunk ≡ trunk → IsWhole old parts
     → came ≡ roots_of parts → new ≡ old → new_came ≡ came → IsLedgerMet trunk parts number text None said → IsOneMet trunk parts number text new new_came None said
@@ -116,18 +116,18 @@ part_met trunk number text old new came new_came None parts said same whole are 
     none_counts trunk parts number text old new came new_came said same whole are kept stays (inr refused)
 
 -- what has come of the ledgers behind the trunk
-record HasMet (trunk : Contents) (parts : List Contents) (number : ℕ) (texts : List (List ℕ)) (old new : Joiner) (said : List ℕ) : Type 0 where
-  now : Collected
-  all : List Contents
-  is_now : new.whole ≡ Some now
-  trunk_is : now.trunk ≡ trunk
-  is_whole : IsWhole now all
-  came : new.came.keys ≡ roots_of all
-  are_met : AreLedgersMet trunk parts number texts all said
-  sound : old.is_sound ≡ true → new.is_sound ≡ is_silent said
-  unsound : old.is_sound ≡ false → new.is_sound ≡ false
+pub record HasMet (trunk : Contents) (parts : List Contents) (number : ℕ) (texts : List (List ℕ)) (old new : Joiner) (said : List ℕ) : Type 0 where
+  pub now : Collected
+  pub all : List Contents
+  pub is_now : new.whole ≡ Some now
+  pub trunk_is : now.trunk ≡ trunk
+  pub is_whole : IsWhole now all
+  pub came : new.came.keys ≡ roots_of all
+  pub are_met : AreLedgersMet trunk parts number texts all said
+  pub sound : old.is_sound ≡ true → new.is_sound ≡ is_silent said
+  pub unsound : old.is_sound ≡ false → new.is_sound ≡ false
 
-parts_met : (trunk : Contents) (texts : List (List ℕ)) (old new : Joiner) (was : Collected) (parts : List Contents) (said : List ℕ) → old.whole ≡ Some was → was.trunk ≡ trunk
+pub parts_met : (trunk : Contents) (texts : List (List ℕ)) (old new : Joiner) (was : Collected) (parts : List Contents) (said : List ℕ) → old.whole ≡ Some was → was.trunk ≡ trunk
     → IsWhole was parts → old.came.keys ≡ roots_of parts → LedgersAreTaken Joins old texts new said → HasMet trunk parts old.number texts old new said
 parts_met trunk [] old new was parts said is same whole are (kept, none) = record {
   now = was;
@@ -164,28 +164,28 @@ parts_met trunk (text ∷ texts) old new was parts said is same whole are (middl
     }
 
 -- what has come of all ledgers
-record HasCome (text : List ℕ) (new : Joiner) (whole : Collected) (lines : List ℕ) : Type 0 where
-  first : List ℕ
-  others : List (List ℕ)
-  are_ledgers : AreLedgers text (first ∷ others)
-  left : Left
-  reads : IsLoadedAs first whole.trunk left
-  parts : List Contents
-  said : List ℕ
-  are_met : AreLedgersMet whole.trunk [] 2 others parts said
-  is_whole : IsWhole whole parts
-  came : new.came.keys ≡ roots_of parts
-  is : lines ≡ left_line (codes "trunk") left ++ said
-  sound : new.is_sound ≡ is_silent lines
+pub record HasCome (text : List ℕ) (new : Joiner) (whole : Collected) (lines : List ℕ) : Type 0 where
+  pub first : List ℕ
+  pub others : List (List ℕ)
+  pub are_ledgers : AreLedgers text (first ∷ others)
+  pub left : Left
+  pub reads : IsLoadedAs first whole.trunk left
+  pub parts : List Contents
+  pub said : List ℕ
+  pub are_met : AreLedgersMet whole.trunk [] 2 others parts said
+  pub is_whole : IsWhole whole parts
+  pub came : new.came.keys ≡ roots_of parts
+  pub is : lines ≡ left_line (codes "trunk") left ++ said
+  pub sound : new.is_sound ≡ is_silent lines
 
-one_at_least : (whole : List (List ℕ)) (last : List ℕ) → [] ≡ whole ++ last ∷ [] → ⊥
+pub one_at_least : (whole : List (List ℕ)) (last : List ℕ) → [] ≡ whole ++ last ∷ [] → ⊥
 one_at_least [] last e = absurd cc
 one_at_least (l ∷ whole) last e = absurd cc
 
 some_is : (a b : Collected) → Some a ≡ Some b → a ≡ b
 some_is a b e = cc
 
-all_come : (ledgers : List (List ℕ)) (text : List ℕ) (old new : Joiner) (whole : Collected) (lines : List ℕ) → AreLedgers text ledgers → LedgersAreTaken Joins old ledgers new lines
+pub all_come : (ledgers : List (List ℕ)) (text : List ℕ) (old new : Joiner) (whole : Collected) (lines : List ℕ) → AreLedgers text ledgers → LedgersAreTaken Joins old ledgers new lines
     → old.whole ≡ None → old.came.keys ≡ [] → new.whole ≡ Some whole → HasCome text new whole lines
 all_come [] text old new whole lines are taken none nothing is = absurd (one_at_least are.whole are.last are.are_all)
 all_come (first ∷ others) text old new whole lines are (middle, one, more, joins, later, all_said) none nothing is =
@@ -288,10 +288,10 @@ refused_so number text e old came r faults new_faults name either ends is h =
 
 -- what is told is told, or why it isn't
 pub joins_so : (IsText : Packed → List Recorded → Left → List ℕ → Type 0) (r : Result Outcome Ended) (read new_read said new_said faults new_faults : Option (List ℕ))
-    → IfOk r (TellsStream IsText read new_read said new_said faults new_faults) → IfErr r (λ e. PrintsNothing e said new_said)
+    → IfOk r (TellsStream IsText read new_read said new_said faults new_faults) → IfErr r (λ e. PrintsNothing e said new_said) → IfErr r (WarnsOfFirst read new_read faults new_faults)
     → JoinsStream IsText read new_read said new_said faults new_faults r
-joins_so IsText (Ok o) read new_read said new_said faults new_faults tells silent = tells
-joins_so IsText (Err e) read new_read said new_said faults new_faults tells silent = silent
+joins_so IsText (Ok o) read new_read said new_said faults new_faults tells silent warns = tells
+joins_so IsText (Err e) read new_read said new_said faults new_faults tells silent warns = (silent, warns)
 
 pub not_both : (b : Bool) → b ≡ true → b ≡ false → ⊥
 not_both b holds fails = let clash : true ≡ false = sym holds ∙ fails in absurd (cc)

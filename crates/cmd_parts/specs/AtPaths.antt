@@ -16,6 +16,7 @@ use Rattle.cmd_ledgers.specs.GoingOn.{GoesOnAt, LeavesAt}
 use Rattle.cmd_options.specs.Ends.{PrintsNothing}
 use Rattle.cmd_parts.specs.Join.{Findings, TellsAll, WarnsFirst}
 use Rattle.cmd_parts.specs.Settle.{SettlesLedger}
+use Rattle.cmd_parts.specs.Spared.{IsSpared}
 use Rattle.cmd_parts.specs.Settling.{ComesFirst, LeavesSettled}
 use Rattle.cmd_parts.specs.Split.{GrowsTrunk, begun_part, path_within, split_text}
 
@@ -116,13 +117,14 @@ JoinsAt IsText folder old new said new_said faults new_faults (Ok o) =
 JoinsAt IsText folder old new said new_said faults new_faults (Err e) = PrintsNothing e said new_said
     × WarnsFirst (finds_at old) folder faults new_faults e × IsKept old new
 
--- they are told of, and the one ledger of all comes to stand at a path, which is locked. Where that ends early nothing
+-- they are told of, and the one ledger of all comes to stand at a path, which is locked and that of none of them. Where that ends early nothing
 -- changes at any path; the telling ended, or all is told, but the ledger isn't put
 abbrev pub CollectsAt : {K : Type 0} → (Packed → List Recorded → Left → List ℕ → Type 0)
     → (Result (Option K) Ended → Type 0) → SameFile → List ℕ → List ℕ → Shelf → Shelf
     → Option (List ℕ) → Option (List ℕ) → Option (List ℕ) → Option (List ℕ) → Result Outcome Ended → Type 0
 CollectsAt {K} IsText Locks tells folder out old new said new_said faults new_faults (Ok o) =
-    ((lock : K) × Locks (Ok (Some lock))) × ((begun text : Option (List ℕ)) × IsBlank begun
+    ((lock : K) × Locks (Ok (Some lock))) × IsSpared (tells out) (finds_at old) folder
+    × ((begun text : Option (List ℕ)) × IsBlank begun
     × TellsAll IsText (finds_at old) folder begun text said new_said faults new_faults o × IsPut tells out text old new)
 CollectsAt {K} IsText Locks tells folder out old new said new_said faults new_faults (Err e) =
     ((PrintsNothing e said new_said × WarnsFirst (finds_at old) folder faults new_faults e)

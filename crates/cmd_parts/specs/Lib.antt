@@ -3,6 +3,7 @@ pub mod Settle
 pub mod Split
 pub mod Join
 pub mod Gather
+pub mod Spared
 pub mod inside
 pub mod AtPaths
 pub mod Ledgers

@@ -1,6 +1,6 @@
 -- What is recorded of given tables, and which tables are recorded without a verdict: by a ledger, or by a folder of a
 -- trunk and its parts.
-use Rattle.std.specs.Prelude.{◌≡◌, ◌⊎◌, ℕ, List, map, Option, Some, None, IsSome, codes}
+use Rattle.std.specs.Prelude.{◌≡◌, ◌⊎◌, ℕ, List, [], map, Option, Some, None, IsSome, codes}
 use Rattle.std.specs.Io.KnownBytes.{Appends}
 use Rattle.text.specs.Lines.{joined}
 use Rattle.machine_text.specs.Packed.{Packed}
@@ -14,6 +14,7 @@ use Rattle.ledger.specs.declared.left.Left.{Left}
 use Rattle.totals.specs.Parts.{joined_with}
 use Rattle.cmd_options.specs.declared.outcome.Outcome.{Outcome}
 use Rattle.cmd_options.specs.declared.outcome.Outcome.TheVariants.{Accepted}
+use Rattle.cmd_lines.specs.First.{AnswersFirst}
 use Rattle.cmd_lines.specs.Stream.{AnswersStream}
 use Rattle.cmd_parts.specs.Join.{Findings, HoldsTree, IsMet, IsReadAt}
 use Rattle.cmd_parts.specs.Split.{path_within}
@@ -62,6 +63,14 @@ abbrev pub AnswersLines : Findings → List ℕ → Option (List ℕ) → Option
 AnswersLines Finds path read new_read held new_held o =
     AnswersByLedger Finds path read new_read held new_held o
     ⊎ AnswersByFolder Finds path read new_read held new_held o
+
+-- these are the answers to the first lines of what was read, by that ledger or folder; none is answered before it is read
+abbrev pub AnswersFirstBy : Findings → List ℕ → Option (List ℕ) → Option (List ℕ) → List ℕ → Type 0
+AnswersFirstBy Finds path read new_read answers = (answers ≡ [])
+    ⊎ (((board : Contents) × (left : Left) × IsReadAt Finds path board left
+    × AnswersFirst (SaysOfLine (SaysByBoard board)) read new_read answers)
+    ⊎ ((trunk : Contents) × (left : Left) × IsReadAt Finds (path_within path (codes "trunk")) trunk left
+    × AnswersFirst (SaysOfLine (SaysByFolder Finds path trunk)) read new_read answers))
 
 -- the holdouts among records are printed, a line each, in the order of their texts
 abbrev pub PrintsHoldouts : List Recorded → Option (List ℕ) → Option (List ℕ) → Type 0

@@ -15,10 +15,10 @@ use Rattle.cmd_ledgers.specs.LedgerReport.{EndsLedger}
 use Rattle.cmd_options.specs.Ends.{PrintsNothing}
 use Rattle.cmd_options.specs.Outcome.{ended_line}
 use Rattle.cmd_options.specs.declared.ended.Ended.{Ended}
-use Rattle.cmd_options.specs.declared.ended.Ended.TheVariants.{BadHeader, WrongRoot}
+use Rattle.cmd_options.specs.declared.ended.Ended.TheVariants.{BadHeader, Stream, WrongRoot}
 use Rattle.cmd_options.specs.declared.outcome.Outcome.{Outcome}
 use Rattle.cmd_parts.specs.Join.{TellsParts, counted_part, is_silent, left_line, line_behind}
-use Rattle.cmd_parts.specs.Ledgers.{AreLedgers}
+use Rattle.cmd_parts.specs.Ledgers.{AreLedgers, BeginsWithLedgers}
 
 -- a text is loaded as a board, whose root names its states in order, up to what is left
 pub record IsLoadedAs (text : List ℕ) (b : Contents) (left : Left) : Type 0 where
@@ -101,9 +101,52 @@ pub record TellsStream (IsText : Packed → List Recorded → Left → List ℕ 
   pub tells : TellsParts IsText trunk parts (is_silent lines) said new_said o
   pub warns : Appends faults new_faults lines
 
+-- what is said to the first ledgers of a text: that of a trunk, and those of its parts
+abbrev pub SaysToLedgers : List (List ℕ) → List ℕ → Type 0
+SaysToLedgers [] said = said ≡ []
+SaysToLedgers (first ∷ others) said =
+    (trunk : Contents) × (left : Left) × (parts : List Contents) × (met : List ℕ) × IsLoadedAs first trunk left
+    × AreLedgersMet trunk [] 2 others parts met × (said ≡ left_line (codes "trunk") left ++ met)
+
+-- which of the first open tables of a trunk have no part
+abbrev pub SaysMissing : Contents → List Contents → List ℕ → Type 0
+SaysMissing trunk parts missing = (missing ≡ [])
+    ⊎ ((roots : List Packed) × (later : List Packed) × AreAll (IsOpenOn trunk) (roots ++ later)
+    × AreMissed (roots_of parts) roots missing)
+
+-- what is said to all of them, and of the first open tables of the trunk
+pub record SaysToTables (text said : List ℕ) : Type 0 where
+  pub first : List ℕ
+  pub others : List (List ℕ)
+  pub are_ledgers : AreLedgers text (first ∷ others)
+  pub trunk : Contents
+  pub left : Left
+  pub reads : IsLoadedAs first trunk left
+  pub parts : List Contents
+  pub met : List ℕ
+  pub are_met : AreLedgersMet trunk [] 2 others parts met
+  pub missing : List ℕ
+  pub are_missed : SaysMissing trunk parts missing
+  pub all : said ≡ left_line (codes "trunk") left ++ met ++ missing
+
+-- a first part of a stream is read, and this is what was said to its first ledgers, behind each of which another one begins;
+-- or to all, where the stream is at its end
+pub record SaysToFirst (read new_read : Option (List ℕ)) (said : List ℕ) : Type 0 where
+  pub text : List ℕ
+  pub consumed : Consumes read new_read text
+  pub says : ((ledgers : List (List ℕ)) × (rest : List ℕ) × BeginsWithLedgers text ledgers rest
+      × SaysToLedgers ledgers said) ⊎ (IsAtEnd new_read × SaysToTables text said)
+
+-- where the telling ended early, what was said is whole lines, those of the first ledgers and open tables, unless a stream
+-- failed
+abbrev pub WarnsOfFirst : Option (List ℕ) → Option (List ℕ) → Option (List ℕ) → Option (List ℕ) → Ended → Type 0
+WarnsOfFirst read new_read faults new_faults e =
+    ((said : List ℕ) × SaysToFirst read new_read said × Appends faults new_faults said) ⊎ (e ≡ Stream)
+
 -- what may come of it
 abbrev pub JoinsStream : (Packed → List Recorded → Left → List ℕ → Type 0) → Option (List ℕ) → Option (List ℕ)
     → Option (List ℕ) → Option (List ℕ) → Option (List ℕ) → Option (List ℕ) → Result Outcome Ended → Type 0
 JoinsStream IsText read new_read said new_said faults new_faults (Ok o) =
     TellsStream IsText read new_read said new_said faults new_faults o
-JoinsStream IsText read new_read said new_said faults new_faults (Err e) = PrintsNothing e said new_said
+JoinsStream IsText read new_read said new_said faults new_faults (Err e) =
+    PrintsNothing e said new_said × WarnsOfFirst read new_read faults new_faults e

@@ -3,9 +3,11 @@ pub mod Looking
 pub mod Taking
 pub mod Joining
 pub mod Walking
-use Rattle.std.specs.Prelude.{◌≡◌, ℕ, Bool, List, [], ◌++◌, Option, None, Some, Ok, nat_lt}
+use Rattle.std.specs.Prelude.{◌≡◌, ℕ, Bool, false, List, [], ◌++◌, Option, None, Some, Ok, nat_lt}
+use Rattle.std.specs.List.{All}
 use Rattle.std.specs.Io.KnownBytes.{Appends}
 use Rattle.machine_text.specs.Packed.{Packed}
+use Rattle.machine_text.specs.Text.{text_of}
 use Rattle.cert.specs.Claim.{Recorded}
 use Rattle.ledger.specs.Contents.{Contents}
 use Rattle.ledger.specs.LedgerText.{ledger_text}
@@ -14,9 +16,14 @@ use Rattle.totals.specs.Parts.{joined_with}
 use Rattle.totals.specs.Whole.{AddGives, Collected, IsWhole}
 use Rattle.cmd_parts.specs.Join.{AreMet, Findings, is_silent, record_lines}
 use Rattle.cmd_parts.specs.Settling.{filled_count}
+use Rattle.cmd_parts.specs.Split.{path_within}
 
 abbrev pub is_below : ℕ → Packed → Bool
 is_below limit t = nat_lt (filled_count t) limit
+
+-- of the parts of these roots it is told that they aren't the ledger that is written
+abbrev pub AreOthers : (List ℕ → Bool → Type 0) → List ℕ → List Packed → Type 0
+AreOthers Tells folder roots = All (λ root. Tells (path_within folder (text_of root)) false) roots
 
 -- a part that counts is added to a whole, and its lines to the one ledger; else nothing changes
 abbrev pub AddsCounted : Option Contents → Collected → Collected → Option (List ℕ) → Option (List ℕ) → Type 0

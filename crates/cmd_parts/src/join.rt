@@ -16,7 +16,8 @@ ghost use Rattle.cmd_parts.specs.AtPaths.{JoinsAt, CollectsAt, finds_at};
 ghost use Rattle.cmd_parts.specs.Split.{path_within};
 ghost use Rattle.cmd_parts.specs.Join.{IsMet, IsMetAs, IsMetIn, IsReadAt, TellsAll, TellsParts, WarnsFirst, ended_by, is_silent, left_line, line_behind, record_lines};
 ghost use Rattle.cmd_parts.specs.Gather.{IsGathered};
-ghost use Rattle.cmd_parts.specs.inside.{AreAdded, CountsMore, MeetsPart, SaysMet};
+ghost use Rattle.cmd_parts.specs.Spared.{IsSpared};
+ghost use Rattle.cmd_parts.specs.inside.{AreAdded, AreOthers, CountsMore, MeetsPart, SaysMet};
 
 use crate::collector::{Collector, Nowhere, OneLedger};
 use crate::folder::{TRUNK, part_path, path_within};
@@ -133,6 +134,7 @@ fn joined<H: Files, P: ReportForm, W: Write, E: Write>(
     answers: &mut W,
     faults: &mut E,
 ) -> Result<(H::Made, Outcome), Ended>
+    ensures spared { OnOk result (IsSpared (H.tells_same host.now out.now) (finds_at (H.holds host.now)) folder.now) }
     ensures ok { IfOk result (λ j. (begun : Option (List ℕ)) × IsBlank begun
         × TellsAll (P.is_text form.now) (finds_at (H.holds host.now)) folder.now begun (H.Made.text j.0)
         (W.contents answers.old) (W.contents answers.new) (E.contents faults.old) (E.contents faults.new) j.1) }
@@ -163,6 +165,7 @@ fn join_beside<'a, H: Files, P: ReportForm, C: Collector, W: Write, E: Write>(
     answers: &mut W,
     faults: &mut E,
 ) -> Result<Outcome, Ended>
+    ensures spared { OnOk result (IsSpared (H.tells_same host.now out.now) (finds_at (H.holds host.now)) folder.now) }
     ensures ok { IfOk result (TellsAll (P.is_text form.now) (finds_at (H.holds host.now)) folder.now
         (C.text collector.old) (C.text collector.new) (W.contents answers.old) (W.contents answers.new)
         (E.contents faults.old) (E.contents faults.new)) }
@@ -190,6 +193,7 @@ pub fn join_parts<S: PartLedgers, P: ReportForm, C: Collector, W: Write, E: Writ
     answers: &mut W,
     faults: &mut E,
 ) -> Result<Outcome, Ended>
+    ensures spared { OnOk result (IsSpared (S.tells_written parts.now) (S.finds parts.now) folder.now) }
     ensures tells { IfOk result (TellsAll (P.is_text form.now) (S.finds parts.now) folder.now
         (C.text collector.old) (C.text collector.new) (W.contents answers.old) (W.contents answers.new)
         (E.contents faults.old) (E.contents faults.new)) }
@@ -210,6 +214,7 @@ pub fn gather<S: PartLedgers, C: Collector, E: Write>(
     collector: &mut C,
     faults: &mut E,
 ) -> Result<(Whole, bool), Ended>
+    ensures spared { OnOk result (IsSpared (S.tells_written parts.now) (S.finds parts.now) folder.now) }
     ensures ok { IfOk result (λ gathered. IsGathered (S.finds parts.now) folder.now gathered.0 gathered.1
         (C.text collector.old) (C.text collector.new) (E.contents faults.old) (E.contents faults.new)
         (C.counts collector.new)) }
@@ -234,7 +239,10 @@ fn spare<S: PartLedgers>(
     folder: &str,
     trunk: &str,
     roots: &[Table],
-) -> Result<(), Ended> {
+) -> Result<(), Ended>
+    ensures trunk { OnOk result (S.tells_written parts.now trunk.now false) }
+    ensures parts { OnOk result (AreOthers (S.tells_written parts.now) folder.now roots.now) }
+{
     if parts.is_written(trunk)? {
         return Err(Ended::OutInFolder);
     }

@@ -1,8 +1,9 @@
 // A whole to which the ledgers of a stream are added.
-ghost use Rattle.std.specs.Prelude.{◌≡◌, [], List, ℕ, None, Some, IfOk, OnOk};
+ghost use Rattle.std.specs.Prelude.{◌≡◌, [], List, ℕ, None, Some, IfErr, IfOk, OnOk};
 ghost use Rattle.indexmap.specs.IndexSet.{insert_key};
 ghost use Rattle.ledger.specs.Records.{same_table};
 ghost use Rattle.std.specs.Io.KnownBytes.{Appends};
+ghost use Rattle.cmd_options.specs.Ends.{PrintsNothing};
 ghost use Rattle.cmd_parts.specs.inside.Joining.{AddsBoard, AddsLedger, AddsPart, BeginsTrunk, Joins, SaysAdding};
 
 use crate::ledger_taker::LedgerTaker;
@@ -47,28 +48,31 @@ impl Joiner {
 
     // Takes the trunk.
     fn begin<E: Write>(&mut self, text: &[u8], faults: &mut E) -> Result<(), Ended>
-        ensures { OnOk result ((said : List ℕ) × BeginsTrunk self.old text.now self.new said
+        ensures ok { OnOk result ((said : List ℕ) × BeginsTrunk self.old text.now self.new said
             × Appends (E.contents faults.old) (E.contents faults.new) said) }
+        ensures err { IfErr result (λ e. PrintsNothing e (E.contents faults.old) (E.contents faults.new)) }
     {
         let (trunk, left) = load(self.alloc, text)?;
+        let whole = Whole::of(self.alloc, trunk)?;
         self.is_sound = says_left(self.alloc, b"trunk", &left, faults)?;
-        self.whole = Some(Whole::of(self.alloc, trunk)?);
+        self.whole = Some(whole);
         self.number = 2;
         Ok(())
     }
 
     // Takes a part of what has come before.
     fn add<E: Write>(&mut self, mut whole: Whole, text: &[u8], faults: &mut E) -> Result<(), Ended>
-        ensures { OnOk result ((said : List ℕ) × AddsLedger self.old whole text.now self.new said
+        ensures ok { OnOk result ((said : List ℕ) × AddsLedger self.old whole text.now self.new said
             × Appends (E.contents faults.old) (E.contents faults.new) said) }
+        ensures err { IfErr result (λ e. PrintsNothing e (E.contents faults.old) (E.contents faults.new)) }
     {
         let (alloc, number) = (self.alloc, self.number);
-        let is_sound = add_part(alloc, number, text, &mut whole, &mut self.came, faults)?;
-        let Some(number) = self.number.checked_add(1) else {
+        let Some(next) = number.checked_add(1) else {
             // No stream has so many ledgers.
             return Err(Ended::NoMemory);
         };
-        self.number = number;
+        let is_sound = add_part(alloc, number, text, &mut whole, &mut self.came, faults)?;
+        self.number = next;
         self.is_sound = self.is_sound && is_sound;
         self.whole = Some(whole);
         Ok(())
@@ -95,9 +99,10 @@ fn add_part<E: Write>(
     came: &mut IndexSet<Table>,
     faults: &mut E,
 ) -> Result<bool, Ended>
-    ensures { IfOk result (λ sound. SaysAdding
+    ensures ok { IfOk result (λ sound. SaysAdding
         (AddsPart number text.now whole.old came.old.keys whole.new came.new.keys) sound
         (E.contents faults.old) (E.contents faults.new)) }
+    ensures err { IfErr result (λ e. PrintsNothing e (E.contents faults.old) (E.contents faults.new)) }
 {
     match load(alloc, text) {
         Ok((part, left)) => add_board(alloc, &part, &left, whole, came, faults),
@@ -117,9 +122,10 @@ fn add_board<E: Write>(
     came: &mut IndexSet<Table>,
     faults: &mut E,
 ) -> Result<bool, Ended>
-    ensures { IfOk result (λ sound. SaysAdding
+    ensures ok { IfOk result (λ sound. SaysAdding
         (AddsBoard part.now left.now whole.old came.old.keys whole.new came.new.keys) sound
         (E.contents faults.old) (E.contents faults.new)) }
+    ensures err { IfErr result (λ e. PrintsNothing e (E.contents faults.old) (E.contents faults.new)) }
 {
     let name = root_name(alloc, part.root())?;
     match whole.add(part) {

@@ -1,6 +1,7 @@
 // From the pieces of a stream to its ledgers.
-ghost use Rattle.std.specs.Prelude.{◌≡◌, ◌++◌, ◌∷◌, [], List, ℕ, Option, OnOk};
-ghost use Rattle.cmd_parts.specs.inside.Taking.{CutsBefore, HasTaken, TakesAll, TakesMoreLedgers, TakesLedgers};
+ghost use Rattle.std.specs.Prelude.{◌≡◌, ◌++◌, ◌∷◌, [], List, ℕ, Option, IfErr, OnOk};
+ghost use Rattle.cmd_options.specs.Ends.{PrintsNothing};
+ghost use Rattle.cmd_parts.specs.inside.Taking.{CutsBefore, HasTaken, HasTakenLedgers, TakesAll, TakesFirstLedgers, TakesMoreLedgers, TakesLedgers};
 
 use crate::head::is_head;
 use crate::ledger_taker::LedgerTaker;
@@ -28,8 +29,10 @@ pub(crate) fn take_ledgers<R: Read, T: LedgerTaker, E: Write>(
     taker: &mut T,
     faults: &mut E,
 ) -> Result<(), Ended>
-    ensures { OnOk result (TakesLedgers T.takes taker.old taker.new (R.remaining input.old) (R.remaining input.new)
+    ensures ok { OnOk result (TakesLedgers T.takes taker.old taker.new (R.remaining input.old) (R.remaining input.new)
         (E.contents faults.old) (E.contents faults.new)) }
+    ensures first { IfErr result (λ e. TakesFirstLedgers T.takes taker.old (R.remaining input.old)
+        (R.remaining input.new) (E.contents faults.old) e (E.contents faults.new)) }
 {
     let mut ledgers = LedgerLoop::new(alloc);
     let mut buf = [0; PIECE_BYTES];
@@ -67,8 +70,12 @@ impl LedgerLoop {
         taker: &mut T,
         faults: &mut E,
     ) -> Result<(), Ended>
-        ensures { OnOk result (TakesMoreLedgers T.takes piece.now self.old.before.items self.old.line.items taker.old
+        ensures ok { OnOk result (TakesMoreLedgers T.takes piece.now self.old.before.items self.old.line.items taker.old
             (E.contents faults.old) self.new.before.items self.new.line.items taker.new (E.contents faults.new)) }
+        ensures first { IfErr result (λ e. (start : T) (begun : Option (List ℕ)) (text : List ℕ)
+            → HasTaken T.takes start begun text self.old.before.items self.old.line.items taker.old
+            (E.contents faults.old)
+            → HasTakenLedgers T.takes start begun (text ++ piece.now) e (E.contents faults.new)) }
     {
         let mut left = piece;
         'lines: loop {
@@ -85,10 +92,14 @@ impl LedgerLoop {
 
     // At the end of the stream: takes the last ledger, and the one before it where that isn't taken yet.
     fn end<T: LedgerTaker, E: Write>(&mut self, taker: &mut T, faults: &mut E) -> Result<(), Ended>
-        ensures { OnOk result ((start : T) (begun : Option (List ℕ)) (text : List ℕ)
+        ensures ok { OnOk result ((start : T) (begun : Option (List ℕ)) (text : List ℕ)
             → HasTaken T.takes start begun text self.old.before.items self.old.line.items taker.old
             (E.contents faults.old)
             → TakesAll T.takes start begun text taker.new (E.contents faults.new)) }
+        ensures first { IfErr result (λ e. (start : T) (begun : Option (List ℕ)) (text : List ℕ)
+            → HasTaken T.takes start begun text self.old.before.items self.old.line.items taker.old
+            (E.contents faults.old)
+            → HasTakenLedgers T.takes start begun text e (E.contents faults.new)) }
     {
         self.cut_before_line(taker, faults)?;
         self.before.extend_from_slice(&self.line)?;
@@ -103,6 +114,7 @@ impl LedgerLoop {
     ) -> Result<(), Ended>
         ensures ok { OnOk result (CutsBefore T.takes self.old.before.items self.old.line.items taker.old
             (E.contents faults.old) self.new.before.items taker.new (E.contents faults.new)) }
+        ensures err { IfErr result (λ e. PrintsNothing e (E.contents faults.old) (E.contents faults.new)) }
         ensures line { self.new.line.items ≡ self.old.line.items }
     {
         if is_head(&self.line) && !self.before.is_empty() {

@@ -1,7 +1,8 @@
 // `bb look`.
-ghost use Rattle.std.specs.Prelude.{◌≡◌, IfOk, false, true};
+ghost use Rattle.std.specs.Prelude.{◌≡◌, IfErr, IfOk, false, true};
+ghost use Rattle.cmd_lines.specs.First.{WritesFirst};
 ghost use Rattle.cmd_parts.specs.AtPaths.{finds_at};
-ghost use Rattle.cmd_parts.specs.Look.{AnswersByFolder, AnswersLines, PrintsAt};
+ghost use Rattle.cmd_parts.specs.Look.{AnswersByFolder, AnswersFirstBy, AnswersLines, PrintsAt};
 
 use crate::folder::trunk_path;
 use crate::folder_look::FolderLook;
@@ -19,7 +20,8 @@ use std::io::{Read, Write};
 /// or that it is unknown. Of a folder, what its trunk has no record of is looked for in the part that it
 /// belongs to. For holdouts no line is read: those of all are printed, and what is wrong with
 /// the parts of a folder is said on `faults`. Errors: `File` where nothing can be read, `BadHeader` and `WrongRoot` where a
-/// ledger, or the trunk, has no root in order, `NoMemory`, `Stream`.
+/// ledger, or the trunk, has no root in order, `NoMemory`, `Stream`: then what was printed is the answers to the first lines,
+/// in full unless a stream failed.
 pub fn look_at<H: Files, R: Read, W: Write, E: Write>(
     alloc: Global,
     looking: &Looking<'_>,
@@ -31,6 +33,9 @@ pub fn look_at<H: Files, R: Read, W: Write, E: Write>(
     ensures lines { looking.now.holdouts ≡ false → IfOk result (AnswersLines (finds_at (H.holds host.now))
         looking.now.path.now (R.remaining input.old) (R.remaining input.new)
         (W.contents answers.old) (W.contents answers.new)) }
+    ensures first { looking.now.holdouts ≡ false → IfErr result (WritesFirst
+        (AnswersFirstBy (finds_at (H.holds host.now)) looking.now.path.now (R.remaining input.old)
+        (R.remaining input.new)) (W.contents answers.old) (W.contents answers.new)) }
     ensures holdouts { looking.now.holdouts ≡ true → IfOk result (PrintsAt (finds_at (H.holds host.now))
         looking.now.path.now (W.contents answers.old) (W.contents answers.new)
         (E.contents faults.old) (E.contents faults.new)) }
@@ -53,6 +58,9 @@ pub fn look_in<S: PartLedgers, R: Read, W: Write, E: Write>(
 ) -> Result<Outcome, Ended>
     ensures lines { looking.now.holdouts ≡ false → IfOk result (AnswersLines (S.finds parts.now) looking.now.path.now
         (R.remaining input.old) (R.remaining input.new) (W.contents answers.old) (W.contents answers.new)) }
+    ensures first { looking.now.holdouts ≡ false → IfErr result (WritesFirst (AnswersFirstBy (S.finds parts.now)
+        looking.now.path.now (R.remaining input.old) (R.remaining input.new))
+        (W.contents answers.old) (W.contents answers.new)) }
     ensures holdouts { looking.now.holdouts ≡ true → IfOk result (PrintsAt (S.finds parts.now) looking.now.path.now
         (W.contents answers.old) (W.contents answers.new) (E.contents faults.old) (E.contents faults.new)) }
 {
@@ -71,8 +79,10 @@ fn answer_at<S: PartLedgers, R: Read, W: Write>(
     input: &mut R,
     answers: &mut W,
 ) -> Result<Outcome, Ended>
-    ensures { IfOk result (AnswersLines (S.finds parts.now) path.now (R.remaining input.old) (R.remaining input.new)
-        (W.contents answers.old) (W.contents answers.new)) }
+    ensures ok { IfOk result (AnswersLines (S.finds parts.now) path.now (R.remaining input.old)
+        (R.remaining input.new) (W.contents answers.old) (W.contents answers.new)) }
+    ensures first { IfErr result (WritesFirst (AnswersFirstBy (S.finds parts.now) path.now (R.remaining input.old)
+        (R.remaining input.new)) (W.contents answers.old) (W.contents answers.new)) }
 {
     if parts.is_folder(path) {
         return answer_in_folder(alloc, path, parts, input, answers);
@@ -94,8 +104,10 @@ fn answer_in_folder<S: PartLedgers, R: Read, W: Write>(
     input: &mut R,
     answers: &mut W,
 ) -> Result<Outcome, Ended>
-    ensures { IfOk result (AnswersByFolder (S.finds parts.now) folder.now (R.remaining input.old)
+    ensures ok { IfOk result (AnswersByFolder (S.finds parts.now) folder.now (R.remaining input.old)
         (R.remaining input.new) (W.contents answers.old) (W.contents answers.new)) }
+    ensures first { IfErr result (WritesFirst (AnswersFirstBy (S.finds parts.now) folder.now (R.remaining input.old)
+        (R.remaining input.new)) (W.contents answers.old) (W.contents answers.new)) }
 {
     let path = trunk_path(alloc, folder)?;
     let trunk = board_at(alloc, parts, &path)?;

@@ -1,6 +1,7 @@
 // Parts that haven't come.
-ghost use Rattle.std.specs.Prelude.{◌↔◌, Contains, IfOk, IsTrue};
-ghost use Rattle.cmd_parts.specs.inside.Joining.{SaysMissed, SaysRoot};
+ghost use Rattle.std.specs.Prelude.{◌↔◌, Contains, IfErr, IfOk, IsTrue};
+ghost use Rattle.cmd_options.specs.Ends.{PrintsNothing};
+ghost use Rattle.cmd_parts.specs.inside.Joining.{SaysMissed, SaysMissedFirst, SaysRoot};
 
 use crate::remarks::{root_name, says};
 use cmd_options::Ended;
@@ -16,7 +17,9 @@ pub(crate) fn says_missing<E: Write>(
     came: &IndexSet<Table>,
     faults: &mut E,
 ) -> Result<bool, Ended>
-    ensures { IfOk result (λ sound. SaysMissed came.now.keys roots.now sound (E.contents faults.old)
+    ensures ok { IfOk result (λ sound. SaysMissed came.now.keys roots.now sound (E.contents faults.old)
+        (E.contents faults.new)) }
+    ensures first { IfErr result (λ e. SaysMissedFirst came.now.keys roots.now (E.contents faults.old) e
         (E.contents faults.new)) }
 {
     let mut are_all = true;
@@ -35,8 +38,9 @@ fn looked_for<E: Write>(
     came: &IndexSet<Table>,
     faults: &mut E,
 ) -> Result<bool, Ended>
-    ensures { IfOk result (λ sound. SaysRoot came.now.keys root.now sound (E.contents faults.old)
+    ensures ok { IfOk result (λ sound. SaysRoot came.now.keys root.now sound (E.contents faults.old)
         (E.contents faults.new)) }
+    ensures err { IfErr result (λ e. PrintsNothing e (E.contents faults.old) (E.contents faults.new)) }
 {
     if has_root(came, root) {
         return Ok(true);

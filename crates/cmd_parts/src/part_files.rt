@@ -5,12 +5,15 @@ use std::io::{ErrorKind, Read};
 
 /// Where the ledgers of a trunk and its parts are read, each by its path.
 pub trait PartLedgers {
-    ghost use Rattle.std.specs.Prelude.{ℕ, IfOk, List, Option, option_map};
+    ghost use Rattle.std.specs.Prelude.{ℕ, Bool, IfOk, List, Option, option_map};
 
     type File: Read + Drop;
 
     /// What may be found at a path: nothing; or a ledger, with what its reader has, where that is known, and its length.
     ghost finds: { Self → List ℕ → Option (Option (List ℕ) × ℕ) → Type 0 };
+
+    /// What may be told of a path: whether the ledger there is the one that is to be written.
+    ghost tells_written: { Self → List ℕ → Bool → Type 0 };
 
     /// Opens the ledger at a path; none where nothing is there. Errors: `File` where it can't be opened, `NoMemory`.
     fn open(&self, path: &str) -> Result<Option<Opened<Self::File>>, Ended>
@@ -22,7 +25,8 @@ pub trait PartLedgers {
 
     /// Whether the ledger at a path is the one that is to be written, or would be lost where that is made. Errors: a link there
     /// that can't be followed, refused memory.
-    fn is_written(&self, path: &str) -> Result<bool, Ended>;
+    fn is_written(&self, path: &str) -> Result<bool, Ended>
+        ensures { IfOk result (tells_written self.now path.now) };
 }
 
 /// The files of a host.
@@ -43,11 +47,16 @@ pub struct Written<'a> {
 }
 
 impl<H: Files> PartLedgers for PartsAt<'_, H> {
+    ghost use Rattle.std.specs.Prelude.{◌≡◌, IfSome, false};
     ghost use Rattle.cmd_parts.specs.AtPaths.{finds_at};
 
     type File = H::Reader;
 
     ghost finds = { λ parts. finds_at (H.holds parts.host.now) };
+
+    // What isn't the ledger that is written doesn't stand at its path.
+    ghost tells_written = { λ parts path told. told ≡ false
+        → IfSome parts.written (λ written. H.tells_same parts.host.now written.out.now path false) };
 
     fn open(&self, path: &str) -> Result<Option<Opened<H::Reader>>, Ended> {
         match self.host.open_to_end(path) {

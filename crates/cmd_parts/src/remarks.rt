@@ -1,7 +1,8 @@
 // What is said of a ledger, behind its name.
-ghost use Rattle.std.specs.Prelude.{◌≡◌, false, IfOk};
+ghost use Rattle.std.specs.Prelude.{◌≡◌, false, IfErr, IfOk};
 ghost use Rattle.std.specs.Io.KnownBytes.{Appends};
 ghost use Rattle.machine_text.specs.Text.{text_of};
+ghost use Rattle.cmd_options.specs.Ends.{PrintsNothing};
 ghost use Rattle.cmd_parts.specs.Join.{is_silent, left_line, line_behind};
 ghost use Rattle.cmd_parts.specs.Stream.{name_of};
 
@@ -40,8 +41,9 @@ pub(crate) fn says_left<E: Write>(
     left: &Left,
     faults: &mut E,
 ) -> Result<bool, Ended>
-    ensures { IfOk result (λ sound. (sound ≡ is_silent (left_line name.now left.now))
+    ensures ok { IfOk result (λ sound. (sound ≡ is_silent (left_line name.now left.now))
         × Appends (E.contents faults.old) (E.contents faults.new) (left_line name.now left.now)) }
+    ensures err { IfErr result (λ e. PrintsNothing e (E.contents faults.old) (E.contents faults.new)) }
 {
     match left {
         Left::Nothing => Ok(true),
@@ -61,8 +63,9 @@ pub(crate) fn says<E: Write>(
     what: &[u8],
     faults: &mut E,
 ) -> Result<bool, Ended>
-    ensures { IfOk result (λ sound. (sound ≡ false)
+    ensures ok { IfOk result (λ sound. (sound ≡ false)
         × Appends (E.contents faults.old) (E.contents faults.new) (line_behind name.now what.now)) }
+    ensures err { IfErr result (λ e. PrintsNothing e (E.contents faults.old) (E.contents faults.new)) }
 {
     let mut line = Vec::new(alloc);
     line.extend_from_slice(name)?;

@@ -1,22 +1,52 @@
--- What is known of one picture once what ended its command early is said.
-use Rattle.std.proofs.Common.{◌≡◌, ◌⊎◌, ◌∙◌, ℕ, List, Option, Some, None, Result, Ok, Err, IfOk, IfErr, IfNone, inl, inr, ap, subst, sym}
-use Rattle.cmd_options.specs.Ends.{EndsTold}
-use Rattle.cmd_options.specs.Outcome.{outcome_of}
+-- What is known of a drawing once what ended its command early is said.
+use Rattle.std.proofs.Common.{◌≡◌, ◌⊎◌, ◌∙◌, ◌++◌, ℕ, List, Option, Some, None, Result, Ok, Err, IfOk, IfErr, IfNone, IfSome, inl, inr, ap, subst, sym}
+use Rattle.std.proofs.KnownBytes.{Appends-trans}
+use Rattle.std.specs.Io.KnownBytes.{Appends}
+use Rattle.cmd_options.specs.Ends.{EndsTold, PrintsNothing}
+use Rattle.cmd_options.specs.Outcome.{ended_text, outcome_of}
 use Rattle.cmd_options.specs.declared.outcome.Outcome.{Outcome}
 use Rattle.cmd_options.specs.declared.outcome.Outcome.TheVariants.{NoMemory, Failed}
+use Rattle.cmd_options.specs.declared.drawing.Drawing.{Drawing}
 use Rattle.cmd_options.specs.declared.ended.Ended.{Ended}
+use Rattle.cmd_options.specs.declared.ended.Ended.TheVariants.{NoMemory as WantsMemory}
+use Rattle.cmd_lines.specs.First.{EndsSaying, WritesFirst}
+use Rattle.cmd_lines.proofs.Early.{ends_saying}
+use Rattle.cmd_show.specs.One.{DrawsFirst, DrawsNothing, EndsPicture, PicksFirst}
 use Rattle.cmd_show.specs.Said.{EndsDrawing}
 
--- what ends the drawing of lines early ends in want of memory or a failure
-early : (e : Ended) (o : Outcome) → EndsDrawing e → (o ≡ outcome_of e) → (o ≡ NoMemory) ⊎ (o ≡ Failed)
-early e o (inl memory) is = inl (is ∙ ap outcome_of memory)
-early e o (inr (inl stream)) is = inr (is ∙ ap outcome_of stream)
-early e o (inr (inr file)) is = inr (is ∙ ap outcome_of file)
+-- memory was refused, and no stream has failed
+nothing_drawn : (read new_read held new_held said warned new_said : Option (List ℕ)) (e : Ended) → e ≡ WantsMemory → WritesFirst (PicksFirst read new_read) said warned e → PrintsNothing e held new_held
+    → Appends warned new_said (ended_text e) → DrawsNothing read new_read held new_held said new_said
+nothing_drawn read new_read held new_held said warned new_said e memory (lines, picks, inl written) (inl kept) told = record {
+  lines = lines;
+  picks = picks;
+  says = Appends-trans said warned new_said lines (ended_text WantsMemory) written (subst (λ (x : Ended). Appends warned new_said (ended_text x)) memory told);
+  kept = kept;
+}
+nothing_drawn read new_read held new_held said warned new_said e memory (lines, picks, inr cut) silent told = absurd (let stream = cut.0 in cc)
+nothing_drawn read new_read held new_held said warned new_said e memory (lines, picks, inl written) (inr stream) told = absurd cc
 
-pub told_first : {A : Type 0} (out : Option A) (Draws : Option (List ℕ) → Outcome → Type 0) (ended : Result Outcome Ended) (said new_said : Option (List ℕ)) (o : Outcome) →
-    IfOk ended (λ e. IfNone out (Draws said e)) → IfErr ended EndsDrawing → EndsTold ended said new_said o → IfNone out (Draws new_said o ⊎ (o ≡ NoMemory) ⊎ (o ≡ Failed))
-told_first (Some folder) Draws ended said new_said o draws ends told = tt
-told_first None Draws (Ok e) said new_said o draws ends (is, same) =
-    inl (subst (λ (text : Option (List ℕ)). Draws text o) (sym same) (subst (λ (how : Outcome). Draws said how) (sym is) draws))
-told_first None Draws (Err e) said new_said o draws ends (inl (is, appends)) = inr (early e o ends is)
-told_first None Draws (Err e) said new_said o draws ends (inr failed) = inr (inr failed)
+pub told_picture : {A : Type 0} (out : Option A) (d : Drawing) (read new_read held new_held said warned new_said : Option (List ℕ)) (ended : Result Outcome Ended) (o : Outcome)
+    → IfOk ended (λ p. IfNone out (DrawsFirst d read new_read held new_held said warned p)) → IfErr ended (λ e. IfNone out (WritesFirst (PicksFirst read new_read) said warned e))
+    → IfErr ended (λ e. IfNone out (PrintsNothing e held new_held)) → IfErr ended EndsDrawing → EndsTold ended warned new_said o → IfNone out (EndsPicture d read new_read held new_held said new_said o)
+told_picture (Some folder) d read new_read held new_held said warned new_said ended o draws first silent ends told = tt
+told_picture None d read new_read held new_held said warned new_said (Ok p) o draws first silent ends (is, same) =
+    inl (subst (λ (text : Option (List ℕ)). DrawsFirst d read new_read held new_held said text o) (sym same) (subst (λ (how : Outcome). DrawsFirst d read new_read held new_held said warned how) (sym is) draws))
+told_picture None d read new_read held new_held said warned new_said (Err e) o draws first silent ends (inr cut) = inr (inr cut.0)
+told_picture None d read new_read held new_held said warned new_said (Err e) o draws first silent (inl memory) (inl so) =
+    inr (inl (so.0 ∙ ap outcome_of memory, nothing_drawn read new_read held new_held said warned new_said e memory first silent so.1))
+told_picture None d read new_read held new_held said warned new_said (Err e) o draws first silent (inr (inl stream)) (inl so) = inr (inr (so.0 ∙ ap outcome_of stream))
+told_picture None d read new_read held new_held said warned new_said (Err e) o draws first silent (inr (inr file)) (inl so) = inr (inr (so.0 ∙ ap outcome_of file))
+
+-- what ends the drawing of lines early ends in want of memory or a failure
+either : (ended : Result Outcome Ended) → IfErr ended EndsDrawing → IfErr ended (λ e. (outcome_of e ≡ NoMemory) ⊎ (outcome_of e ≡ Failed))
+either (Ok p) ends = tt
+either (Err e) (inl memory) = inl (ap outcome_of memory)
+either (Err e) (inr (inl stream)) = inr (ap outcome_of stream)
+either (Err e) (inr (inr file)) = inr (ap outcome_of file)
+
+pub told_files : {A : Type 0} (out : Option A) (All : A → Outcome → Type 0) (First : A → List ℕ → Type 0) (held new_held : Option (List ℕ)) (ended : Result Outcome Ended) (said new_said : Option (List ℕ)) (o : Outcome)
+    → IfOk ended (λ p. IfSome out (λ folder. All folder p)) → IfErr ended (λ e. IfSome out (λ folder. WritesFirst (First folder) held new_held e)) → IfErr ended EndsDrawing → EndsTold ended said new_said o
+    → IfSome out (λ folder. EndsSaying (All folder) (First folder) held new_held o)
+told_files None All First held new_held ended said new_said o draws first ends told = tt
+told_files (Some folder) All First held new_held ended said new_said o draws first ends told = ends_saying (All folder) (First folder) held new_held ended said new_said o draws first (either ended ends) told

@@ -2,9 +2,12 @@
 use Rattle.std.proofs.Common.{ℕ, List, [], ◌∷◌, Option, subst}
 use Rattle.cmd_options.specs.declared.options.Showing.{Showing}
 use Rattle.cmd_options.specs.declared.outcome.Outcome.{Outcome}
+use Rattle.cmd_options.specs.declared.ended.Ended.{Ended}
+use Rattle.cmd_lines.proofs.Early.{said_so}
+use Rattle.cmd_lines.specs.First.{AnswersFirst, IsSaidToFirst, WritesFirst}
 use Rattle.cmd_lines.specs.Said.{AreTakenBy, TakesStream}
 use Rattle.cmd_lines.specs.Stream.{AnswersStream, SaysAnswer}
-use Rattle.cmd_lines.proofs.Answering.{stream_answered}
+use Rattle.cmd_lines.proofs.Answering.{first_answered, stream_answered}
 use Rattle.cmd_show.specs.Shown.{SaysShown}
 use Rattle.cmd_show.specs.inside.Lines.{KeepsAsked}
 
@@ -37,3 +40,14 @@ module _ {D : Type 0} (asked : D → Showing) where
         taken = lines_kept old so.lines o new so.said so.taken;
         written = so.written;
       })
+
+  pub early_kept : (old : D) (read new_read held new_held : Option (List ℕ)) (e : Ended) → WritesFirst (IsSaidToFirst (KeepsAsked asked) old read new_read) held new_held e
+      → WritesFirst (AnswersFirst (SaysShown (asked old)) read new_read) held new_held e
+  early_kept old read new_read held new_held e so =
+      said_so (IsSaidToFirst (KeepsAsked asked) old read new_read) (AnswersFirst (SaysShown (asked old)) read new_read) held new_held e (λ said is. first_answered (SaysShown (asked old)) old read new_read said (record {
+        lines = is.lines;
+        outcome = is.outcome;
+        new = is.new;
+        are_first = is.are_first;
+        taken = lines_kept old is.lines is.outcome is.new said is.taken;
+      })) so

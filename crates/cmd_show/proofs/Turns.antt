@@ -2,6 +2,9 @@
 use Rattle.std.proofs.Common.{ℕ, List, [], ◌∷◌, Option, ap, subst}
 use Rattle.text.specs.Lines.{BoundedLine}
 use Rattle.cmd_options.specs.declared.outcome.Outcome.{Outcome}
+use Rattle.cmd_options.specs.declared.ended.Ended.{Ended}
+use Rattle.cmd_lines.proofs.Early.{said_so}
+use Rattle.cmd_lines.specs.First.{IsSaidToFirst, WritesFirst}
 use Rattle.cmd_lines.specs.Said.{AreTakenBy, TakesStream}
 use Rattle.cmd_show.specs.inside.Places.{TakesBy}
 
@@ -35,3 +38,15 @@ module _ {D K H : Type 0} (keeps : D → K) (changes : D → H) (Takes : K → H
     taken = lines_taken old so.lines o new so.said so.taken;
     written = so.written;
   }
+
+  -- or the first lines of it, where that ended early
+  pub early_taken : (old : D) (read new_read held new_held : Option (List ℕ)) (e : Ended) → WritesFirst (IsSaidToFirst (TakesBy keeps changes Takes) old read new_read) held new_held e
+      → WritesFirst (IsSaidToFirst (Takes (keeps old)) (changes old) read new_read) held new_held e
+  early_taken old read new_read held new_held e so =
+      said_so (IsSaidToFirst (TakesBy keeps changes Takes) old read new_read) (IsSaidToFirst (Takes (keeps old)) (changes old) read new_read) held new_held e (λ said is. record {
+        lines = is.lines;
+        outcome = is.outcome;
+        new = changes is.new;
+        are_first = is.are_first;
+        taken = lines_taken old is.lines is.outcome is.new said is.taken;
+      }) so

@@ -8,6 +8,7 @@ use Rattle.cmd_lines.specs.Answer.{fault_text}
 use Rattle.cmd_options.specs.declared.drawing.Drawing.{Drawing}
 use Rattle.cmd_options.specs.declared.outcome.Outcome.{Outcome}
 use Rattle.cmd_options.specs.declared.outcome.Outcome.TheVariants.{Accepted, Refused}
+use Rattle.cmd_lines.specs.First.{IsSaidToFirst}
 use Rattle.cmd_lines.specs.Said.{TakesStream}
 use Rattle.files.specs.Paths.{IsKept, IsToldStill, SameFile, Shelf}
 use Rattle.cmd_show.specs.Asked.{table_asked}
@@ -60,6 +61,14 @@ pub record DrawsFiles {H : Type 0} (tells : H → SameFile) (holds : H → Shelf
   pub kept : IsKept (holds host) (holds first)
   pub still : IsToldStill (tells host) (tells first)
   pub draws : TakesStream (DrawsLine tells holds folder d) first last read new_read held new_held o
+
+-- so the first lines of what was read are taken, and this is what was said to them
+pub record DrawsFirstLines {H : Type 0} (tells : H → SameFile) (holds : H → Shelf) (folder : List ℕ) (d : Drawing)
+    (host : H) (read new_read : Option (List ℕ)) (said : List ℕ) : Type 0 where
+  pub first : H
+  pub kept : IsKept (holds host) (holds first)
+  pub still : IsToldStill (tells host) (tells first)
+  pub draws : IsSaidToFirst (DrawsLine tells holds folder d) first read new_read said
 
 -- in one folder no two tables have one path
 abbrev pub IsOneTableAPath : Type 0

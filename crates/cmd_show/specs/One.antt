@@ -1,5 +1,5 @@
 -- The one picture that goes to a stream: of the first table that is asked for.
-use Rattle.std.specs.Prelude.{◌≡◌, ℕ, List, [], ◌∷◌, ◌++◌, Option, Some, None, Result, Ok, Err, codes}
+use Rattle.std.specs.Prelude.{◌≡◌, ◌⊎◌, ℕ, List, [], ◌∷◌, ◌++◌, Option, Some, None, Result, Ok, Err, codes}
 use Rattle.std.specs.Io.KnownBytes.{Appends}
 use Rattle.machine_text.specs.Packed.{Packed}
 use Rattle.text.specs.Lines.{BoundedLine}
@@ -7,11 +7,14 @@ use Rattle.cert.specs.declared.record_fault.RecordFault.{RecordFault}
 use Rattle.cmd_lines.specs.Answer.{fault_text}
 use Rattle.cmd_options.specs.declared.drawing.Drawing.{Drawing}
 use Rattle.cmd_options.specs.declared.outcome.Outcome.{Outcome}
-use Rattle.cmd_options.specs.declared.outcome.Outcome.TheVariants.{Accepted, Refused}
+use Rattle.cmd_options.specs.declared.outcome.Outcome.TheVariants.{Accepted, Refused, NoMemory, Failed}
 use Rattle.cmd_show.specs.declared.one.First.{First}
 use Rattle.cmd_show.specs.Asked.{table_asked}
 use Rattle.cmd_show.specs.Picture.{IsPicture}
+use Rattle.cmd_lines.specs.First.{IsSaidToFirst}
 use Rattle.cmd_lines.specs.Said.{TakesStream}
+use Rattle.cmd_options.specs.Outcome.{ended_text}
+use Rattle.cmd_options.specs.declared.ended.Ended.TheVariants.{NoMemory as WantsMemory}
 
 -- what is said to a table, by the one that came first: nothing to that, and that any other is one too many
 abbrev pub PicksTable : Packed → Option Packed → Outcome → Option Packed → List ℕ → Type 0
@@ -37,3 +40,21 @@ pub record DrawsFirst (d : Drawing) (read new_read held new_held said new_said :
   pub first : First
   pub takes : TakesStream Picks (record { table = None }) first read new_read said new_said o
   pub writes : WritesPicture d first.table held new_held
+
+-- this is what is said to the first lines of what was read
+abbrev pub PicksFirst : Option (List ℕ) → Option (List ℕ) → List ℕ → Type 0
+PicksFirst read new_read said = IsSaidToFirst Picks (record { table = None }) read new_read said
+
+-- memory was refused: nothing is drawn, and that is said behind what was said to the first lines
+pub record DrawsNothing (read new_read held new_held said new_said : Option (List ℕ)) : Type 0 where
+  pub lines : List ℕ
+  pub picks : PicksFirst read new_read lines
+  pub says : Appends said new_said (lines ++ ended_text WantsMemory)
+  pub kept : new_held ≡ held
+
+-- how the drawing of one picture ends
+abbrev pub EndsPicture : Drawing → Option (List ℕ) → Option (List ℕ) → Option (List ℕ) → Option (List ℕ)
+    → Option (List ℕ) → Option (List ℕ) → Outcome → Type 0
+EndsPicture d read new_read held new_held said new_said o =
+    DrawsFirst d read new_read held new_held said new_said o
+    ⊎ (((o ≡ NoMemory) × DrawsNothing read new_read held new_held said new_said) ⊎ (o ≡ Failed))

@@ -1,7 +1,9 @@
 // `bb draw`: tables in, pictures out.
-ghost use Rattle.std.specs.Prelude.{◌≡◌, ◌⊎◌, IfErr, IfNone, IfOk, IfSome};
-ghost use Rattle.cmd_show.specs.Files.{DrawsFiles};
-ghost use Rattle.cmd_show.specs.One.{DrawsFirst};
+ghost use Rattle.std.specs.Prelude.{IfErr, IfNone, IfOk, IfSome};
+ghost use Rattle.cmd_options.specs.Ends.{PrintsNothing};
+ghost use Rattle.cmd_lines.specs.First.{EndsSaying, WritesFirst};
+ghost use Rattle.cmd_show.specs.Files.{DrawsFiles, DrawsFirstLines};
+ghost use Rattle.cmd_show.specs.One.{DrawsFirst, EndsPicture, PicksFirst};
 ghost use Rattle.cmd_show.specs.Said.{EndsDrawing};
 
 use crate::drawing::draw_files;
@@ -13,7 +15,7 @@ use std::io::{Read, Write};
 
 /// Reads a table or a record a line, and draws a space-time picture of each table: in a folder, where one is asked for, as
 /// `draw_files` does; else of the first alone, to `answers`, as `draw_first` does. What a failed stream or file or refused
-/// memory ends is said on `faults`.
+/// memory ends is said on `faults`: then what was said to the first lines is all that was, in full where memory was refused.
 pub fn cmd_draw<H: Files, R: Read, W: Write, E: Write>(
     alloc: Global,
     drawing: &Drawing<'_>,
@@ -22,13 +24,13 @@ pub fn cmd_draw<H: Files, R: Read, W: Write, E: Write>(
     answers: &mut W,
     faults: &mut E,
 ) -> Outcome
-    ensures first { IfNone drawing.now.out (DrawsFirst drawing.now (R.remaining input.old) (R.remaining input.new)
-        (W.contents answers.old) (W.contents answers.new) (E.contents faults.old) (E.contents faults.new) result
-        ⊎ (result ≡ Outcome.NoMemory) ⊎ (result ≡ Outcome.Failed)) }
-    ensures files { IfSome drawing.now.out (λ folder.
-        DrawsFiles H.tells_same H.holds folder.now drawing.now host.old (R.remaining input.old) (R.remaining input.new)
-        (W.contents answers.old) (W.contents answers.new) result
-        ⊎ (result ≡ Outcome.NoMemory) ⊎ (result ≡ Outcome.Failed)) }
+    ensures first { IfNone drawing.now.out (EndsPicture drawing.now (R.remaining input.old) (R.remaining input.new)
+        (W.contents answers.old) (W.contents answers.new) (E.contents faults.old) (E.contents faults.new) result) }
+    ensures files { IfSome drawing.now.out (λ folder. EndsSaying
+        (DrawsFiles H.tells_same H.holds folder.now drawing.now host.old (R.remaining input.old) (R.remaining input.new)
+        (W.contents answers.old) (W.contents answers.new))
+        (DrawsFirstLines H.tells_same H.holds folder.now drawing.now host.old (R.remaining input.old)
+        (R.remaining input.new)) (W.contents answers.old) (W.contents answers.new) result) }
 {
     told(
         draw_asked(alloc, drawing, host, input, answers, faults),
@@ -51,6 +53,13 @@ fn draw_asked<H: Files, R: Read, W: Write, E: Write>(
     ensures files { IfOk result (λ o. IfSome drawing.now.out
         (λ folder. DrawsFiles H.tells_same H.holds folder.now drawing.now host.old (R.remaining input.old)
         (R.remaining input.new) (W.contents answers.old) (W.contents answers.new) o)) }
+    ensures first_picks { IfErr result (λ e. IfNone drawing.now.out (WritesFirst (PicksFirst (R.remaining input.old)
+        (R.remaining input.new)) (E.contents faults.old) (E.contents faults.new) e)) }
+    ensures silent { IfErr result (λ e. IfNone drawing.now.out
+        (PrintsNothing e (W.contents answers.old) (W.contents answers.new))) }
+    ensures first_files { IfErr result (λ e. IfSome drawing.now.out (λ folder. WritesFirst (DrawsFirstLines H.tells_same
+        H.holds folder.now drawing.now host.old (R.remaining input.old) (R.remaining input.new))
+        (W.contents answers.old) (W.contents answers.new) e)) }
     ensures err { IfErr result EndsDrawing }
 {
     match drawing.out {

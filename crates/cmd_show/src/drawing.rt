@@ -1,10 +1,11 @@
 // Pictures that are files of a folder.
 ghost use Rattle.std.specs.Prelude.{◌≡◌, ◌++◌, ℕ, IfErr, IfOk, List, OnOk, string_bytes};
+ghost use Rattle.cmd_lines.specs.First.{IsSaidToFirst, WritesFirst};
 ghost use Rattle.cmd_lines.specs.Said.{TakesStream};
 ghost use Rattle.cmd_lines.specs.Taken.{lent};
 ghost use Rattle.files.specs.Paths.{IsKept, IsToldStill};
 ghost use Rattle.cmd_show.specs.Asked.{table_asked};
-ghost use Rattle.cmd_show.specs.Files.{AnswersAsked, DrawsFiles, DrawsLine, DrawsTable, drawn_text, name_ending, named_path, picture_path};
+ghost use Rattle.cmd_show.specs.Files.{AnswersAsked, DrawsFiles, DrawsFirstLines, DrawsLine, DrawsTable, drawn_text, name_ending, named_path, picture_path};
 ghost use Rattle.cmd_show.specs.Placing.{PutsFile};
 ghost use Rattle.cmd_show.specs.Said.{EndsDrawing};
 
@@ -24,7 +25,8 @@ use tape::NoMemory;
 const FEW_BYTES: usize = 64;
 
 /// Reads a table or a record a line, and makes the picture of each table a file of a folder, under the table's text. It
-/// answers a line with what became of it, as soon as it has.
+/// answers a line with what became of it, as soon as it has. Where that ends early, what was printed is the answers to the
+/// first lines, in full unless a stream failed.
 pub fn draw_files<H: Files, R: Read, W: Write>(
     alloc: Global,
     drawing: &Drawing<'_>,
@@ -35,6 +37,8 @@ pub fn draw_files<H: Files, R: Read, W: Write>(
 ) -> Result<Outcome, Ended>
     ensures ok { IfOk result (DrawsFiles H.tells_same H.holds folder.now drawing.now host.old (R.remaining input.old)
         (R.remaining input.new) (W.contents answers.old) (W.contents answers.new)) }
+    ensures first { IfErr result (WritesFirst (DrawsFirstLines H.tells_same H.holds folder.now drawing.now host.old
+        (R.remaining input.old) (R.remaining input.new)) (W.contents answers.old) (W.contents answers.new)) }
     ensures err { IfErr result EndsDrawing }
 {
     match host.make_folder(folder) {
@@ -55,6 +59,8 @@ fn draw_within<H: Files, R: Read, W: Write>(
     ensures ok { IfOk result (λ o. (last : H)
         × TakesStream (DrawsLine H.tells_same H.holds folder.now drawing.now) host.old last (R.remaining input.old)
         (R.remaining input.new) (W.contents answers.old) (W.contents answers.new) o) }
+    ensures first { IfErr result (WritesFirst (IsSaidToFirst (DrawsLine H.tells_same H.holds folder.now drawing.now)
+        host.old (R.remaining input.old) (R.remaining input.new)) (W.contents answers.old) (W.contents answers.new)) }
     ensures err { IfErr result EndsDrawing }
 {
     let pictures = Pictures {

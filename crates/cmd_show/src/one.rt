@@ -1,7 +1,9 @@
 // One picture, which goes to a stream.
 ghost use Rattle.std.specs.Prelude.{◌≡◌, ◌++◌, ◌∷◌, [], ℕ, IfErr, IfOk, List, OnOk};
 ghost use Rattle.cmd_lines.specs.Answer.{fault_text};
-ghost use Rattle.cmd_show.specs.One.{DrawsFirst, PicksTable, WritesPicture};
+ghost use Rattle.cmd_options.specs.Ends.{PrintsNothing};
+ghost use Rattle.cmd_lines.specs.First.{WritesFirst};
+ghost use Rattle.cmd_show.specs.One.{DrawsFirst, PicksFirst, PicksTable, WritesPicture};
 ghost use Rattle.cmd_show.specs.Said.{EndsDrawing};
 
 use crate::asked::table_asked;
@@ -66,7 +68,8 @@ fn append_fault_line(fault: RecordFault, said: &mut Vec<u8>) -> Result<(), NoMem
 }
 
 /// Reads a table or a record a line, to the end, and then writes the picture of the first table. What is wrong with another
-/// line, and that a table is one too many, is said on `faults`, as the lines come.
+/// line, and that a table is one too many, is said on `faults`, as the lines come. Where that ends early, no picture is
+/// written, and what was said is what is said to the first lines, in full unless a stream failed.
 pub fn draw_first<R: Read, W: Write, E: Write>(
     alloc: Global,
     drawing: &Drawing<'_>,
@@ -76,6 +79,9 @@ pub fn draw_first<R: Read, W: Write, E: Write>(
 ) -> Result<Outcome, Ended>
     ensures ok { IfOk result (DrawsFirst drawing.now (R.remaining input.old) (R.remaining input.new)
         (W.contents answers.old) (W.contents answers.new) (E.contents faults.old) (E.contents faults.new)) }
+    ensures first { IfErr result (WritesFirst (PicksFirst (R.remaining input.old) (R.remaining input.new))
+        (E.contents faults.old) (E.contents faults.new)) }
+    ensures silent { IfErr result (λ e. PrintsNothing e (W.contents answers.old) (W.contents answers.new)) }
     ensures err { IfErr result EndsDrawing }
 {
     let (outcome, first) = say_lines(alloc, First { table: None }, PIECE_BYTES, input, faults)?;
@@ -91,6 +97,7 @@ fn write_picture<W: Write>(
     answers: &mut W,
 ) -> Result<(), Ended>
     ensures ok { OnOk result (WritesPicture drawing.now table (W.contents answers.old) (W.contents answers.new)) }
+    ensures silent { IfErr result (λ e. PrintsNothing e (W.contents answers.old) (W.contents answers.new)) }
     ensures err { IfErr result EndsDrawing }
 {
     let Some(t) = table else {

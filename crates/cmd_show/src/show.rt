@@ -1,6 +1,7 @@
 // `bb show`: tables in, their runs out.
 ghost use Rattle.std.specs.Prelude.{◌≡◌, ◌⊎◌, ◌++◌, ℕ, List, IfErr, IfOk};
 ghost use Rattle.cmd_lines.specs.Taken.{lent};
+ghost use Rattle.cmd_lines.specs.First.{AnswersFirst, EndsSaying, WritesFirst};
 ghost use Rattle.cmd_lines.specs.Stream.{AnswersStream};
 ghost use Rattle.cmd_show.specs.Shown.{SaysShown};
 
@@ -16,7 +17,8 @@ use tape::NoMemory;
 const FEW_BYTES: usize = 64;
 
 /// Reads a table or a record a line, and prints the run of each table, as `append_shown` does; of any other line its fault.
-/// What a failed stream or refused memory ends is said on `faults`.
+/// What a failed stream or refused memory ends is said on `faults`: then what was printed is what is said to the first
+/// lines, in full where memory was refused.
 pub fn cmd_show<R: Read, W: Write, E: Write>(
     alloc: Global,
     showing: &Showing,
@@ -24,9 +26,10 @@ pub fn cmd_show<R: Read, W: Write, E: Write>(
     answers: &mut W,
     faults: &mut E,
 ) -> Outcome
-    ensures { AnswersStream (SaysShown showing.now) (R.remaining input.old) (R.remaining input.new)
-        (W.contents answers.old) (W.contents answers.new) result
-        ⊎ (result ≡ Outcome.NoMemory) ⊎ (result ≡ Outcome.Failed) }
+    ensures { EndsSaying (AnswersStream (SaysShown showing.now) (R.remaining input.old) (R.remaining input.new)
+        (W.contents answers.old) (W.contents answers.new))
+        (AnswersFirst (SaysShown showing.now) (R.remaining input.old) (R.remaining input.new)) (W.contents answers.old)
+        (W.contents answers.new) result }
 {
     told(show_for(alloc, showing, input, answers), faults)
 }
@@ -40,6 +43,8 @@ fn show_for<R: Read, W: Write>(
 ) -> Result<Outcome, Ended>
     ensures ok { IfOk result (AnswersStream (SaysShown showing.now) (R.remaining input.old) (R.remaining input.new)
         (W.contents answers.old) (W.contents answers.new)) }
+    ensures first { IfErr result (WritesFirst (AnswersFirst (SaysShown showing.now) (R.remaining input.old)
+        (R.remaining input.new)) (W.contents answers.old) (W.contents answers.new)) }
     ensures err { IfErr result (λ e. (e ≡ Ended.NoMemory) ⊎ (e ≡ Ended.Stream)) }
 {
     let shower = Shower {

@@ -1,1 +1,5 @@
 pub mod Unread
+pub mod Grammar
+pub mod Given
+pub mod Asked
+pub mod inside

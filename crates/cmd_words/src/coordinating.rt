@@ -1,6 +1,9 @@
 // The options of `bb coord`.
-ghost use Rattle.std.specs.Prelude.{◌≡◌, ◌≤◌, IfOk, IfSome};
+ghost use Rattle.std.specs.Prelude.{◌≡◌, ◌≤◌, IfOk, IfSome, codes};
+ghost use Rattle.clap.specs.Words.{first_of};
 ghost use Rattle.cmd_options.specs.Ranges.{AreWithinRanges, IsBeginning, IsListening};
+ghost use Rattle.cmd_words.specs.Asked.{AsksFor, AsksListeningIf};
+ghost use Rattle.cmd_words.specs.Given.{IsNumber, IsStates, rows_found};
 
 use crate::addresses::is_reachable;
 use crate::arguments::{
@@ -8,20 +11,21 @@ use crate::arguments::{
     TOKEN,
 };
 use crate::line_fault::LineFault;
-use crate::reading::{ledger_of, number_of, written_of};
+use crate::reading::{flag_of, ledger_of, number_of, text_of, written_of};
 use clap::ArgMatches;
 use cmd_options::{Beginning, Listening, Options, PartCoordinating};
 
 // Of a whole tree where the first word is a number, else of a part.
 pub(crate) fn coord_options<'a>(coord: &ArgMatches<'a>) -> Result<Options<'a>, LineFault>
-    ensures { IfOk result AreWithinRanges }
+    ensures within { IfOk result AreWithinRanges }
+    ensures asked { IfOk result (AsksFor (codes "coord") (rows_found coord.now)) }
 {
     let listening = listening_of(coord, number_of(coord, PER_ADDRESS)?);
-    if !coord.get_flag(OPEN.name) && lets_anyone_in(&listening) {
+    if !flag_of(coord, OPEN) && lets_anyone_in(&listening) {
         return Err(LineFault::OpenToAll);
     }
     let era = number_of(coord, ERA)?;
-    let Some(word) = coord.get_str(COORDINATED.name) else {
+    let Some(word) = text_of(coord, COORDINATED) else {
         return Err(LineFault::NoTree);
     };
     match word.parse::<u8>() {
@@ -40,11 +44,15 @@ fn tree_options<'a>(
     beginning: Beginning,
     listening: Option<Listening<'a>>,
 ) -> Result<Options<'a>, LineFault>
-    requires { IsBeginning beginning × IfSome listening IsListening }
-    ensures { IfOk result AreWithinRanges }
+    requires within { IsBeginning beginning × IfSome listening IsListening }
+    requires states { IsStates (rows_found coord.now) (codes "N|FILE") beginning.states }
+    requires era { IsNumber (rows_found coord.now) (codes "era") beginning.era }
+    requires listening { AsksListeningIf (rows_found coord.now) listening }
+    ensures within { IfOk result AreWithinRanges }
+    ensures asked { IfOk result (AsksFor (codes "coord") (rows_found coord.now)) }
 {
     let ledger = ledger_of(coord);
-    if coord.get_flag(SYNC.name) && ledger.is_none() {
+    if flag_of(coord, SYNC) && ledger.is_none() {
         return Err(LineFault::SyncOfNothing);
     }
     Ok(Options::Coord {
@@ -61,11 +69,15 @@ fn part_options<'a>(
     era: u64,
     listening: Option<Listening<'a>>,
 ) -> Result<Options<'a>, LineFault>
-    requires { (1 ≤ era) × IfSome listening IsListening }
-    ensures { IfOk result AreWithinRanges }
+    requires within { (1 ≤ era) × IfSome listening IsListening }
+    requires path { first_of (codes "N|FILE") (rows_found coord.now) ≡ Some path.now }
+    requires era { IsNumber (rows_found coord.now) (codes "era") era }
+    requires listening { AsksListeningIf (rows_found coord.now) listening }
+    ensures within { IfOk result AreWithinRanges }
+    ensures asked { IfOk result (AsksFor (codes "coord") (rows_found coord.now)) }
 {
     match listening {
-        Some(listening) if coord.get_str(LEDGER.name).is_none() && !is_number(path) => {
+        Some(listening) if text_of(coord, LEDGER).is_none() && !is_number(path) => {
             Ok(Options::CoordPart(PartCoordinating {
                 file: written_of(coord, path),
                 era,
@@ -83,17 +95,19 @@ fn is_number(word: &str) -> bool {
 
 // How a coordinator listens, if it does.
 fn listening_of<'a>(coord: &ArgMatches<'a>, per_address: u64) -> Option<Listening<'a>>
-    requires { (1 ≤ per_address) × (per_address ≤ 1000) }
-    ensures { IfSome result IsListening }
+    requires within { (1 ≤ per_address) × (per_address ≤ 1000) }
+    requires given { IsNumber (rows_found coord.now) (codes "per-address") per_address }
+    ensures within { IfSome result IsListening }
+    ensures asked { AsksListeningIf (rows_found coord.now) result }
 {
-    let token = coord.get_str(TOKEN.name);
+    let token = text_of(coord, TOKEN);
     Some(Listening {
-        address: coord.get_str(LISTEN.name)?,
+        address: text_of(coord, LISTEN)?,
         token,
         per_address,
-        accept_holdouts: coord.get_flag(ACCEPT_HOLDOUTS.name),
-        json: coord.get_flag(JSON.name),
-        progress: coord.get_flag(PROGRESS.name),
+        accept_holdouts: flag_of(coord, ACCEPT_HOLDOUTS),
+        json: flag_of(coord, JSON),
+        progress: flag_of(coord, PROGRESS),
     })
 }
 

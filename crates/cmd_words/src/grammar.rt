@@ -1,4 +1,9 @@
 // The commands with their arguments and options, by clap's builder.
+ghost use Rattle.std.specs.Prelude.{◌≡◌, IfOk, false};
+ghost use Rattle.clap.specs.Words.{app_of, new_app, new_rule, with_rule, with_subcommand};
+ghost use Rattle.cmd_words.specs.Grammar.{grammar, search_rules};
+ghost use Rattle.cmd_words.specs.inside.{IsBy, argument_rule, command_app, empty_program, flag_rule, more_rules, number_rule, text_rule, valued_rule, with_arguments, with_commands, with_reaches};
+
 use crate::commands::{COMMANDS, CommandWords, SEARCH, SEARCH_BY_STAGES};
 use crate::help::{BRIEF, STATUSES};
 use crate::words::{Argument, Flag, Text};
@@ -8,11 +13,15 @@ use cmd_options::{NoMemory, Number, REACHES, VERSION};
 use std::alloc::Global;
 
 /// The program with its commands.
-pub(crate) fn program<'a>(alloc: Global) -> Result<Command<'a>, NoMemory> {
+pub(crate) fn program<'a>(alloc: Global) -> Result<Command<'a>, NoMemory>
+    ensures { IfOk result (λ program. app_of program ≡ grammar) }
+{
     with_commands(alloc, empty_program(alloc), &COMMANDS)
 }
 
-fn empty_program<'a>(alloc: Global) -> Command<'a> {
+fn empty_program<'a>(alloc: Global) -> Command<'a>
+    ensures { app_of result ≡ empty_program }
+{
     Command::new(alloc, "bb")
         .version(VERSION)
         .about("A verified tool for the busy beaver problem.")
@@ -21,11 +30,14 @@ fn empty_program<'a>(alloc: Global) -> Command<'a> {
         .arg_required_else_help(true)
 }
 
+#[tactic(auto, unfolding(crate::specs::inside::with_commands))]
 fn with_commands<'a>(
     alloc: Global,
     program: Command<'a>,
     commands: &[CommandWords],
-) -> Result<Command<'a>, NoMemory> {
+) -> Result<Command<'a>, NoMemory>
+    ensures { IfOk result (λ with. app_of with ≡ with_commands (app_of program.entry) commands.now) }
+{
     let mut program = program;
     for words in commands {
         program = with_command(alloc, program, words)?;
@@ -37,11 +49,15 @@ fn with_command<'a>(
     alloc: Global,
     program: Command<'a>,
     words: &CommandWords,
-) -> Result<Command<'a>, NoMemory> {
+) -> Result<Command<'a>, NoMemory>
+    ensures { IfOk result (λ with. app_of with ≡ with_subcommand (app_of program.entry) (command_app words.now).top) }
+{
     program.subcommand(command(alloc, words)?)
 }
 
-fn command<'a>(alloc: Global, words: &CommandWords) -> Result<Command<'a>, NoMemory> {
+fn command<'a>(alloc: Global, words: &CommandWords) -> Result<Command<'a>, NoMemory>
+    ensures { IfOk result (λ command. app_of command ≡ command_app words.now) }
+{
     let command = with_arguments(alloc, empty_command(alloc, words), words.arguments)?;
     if words.searches {
         with_search(alloc, command)
@@ -50,33 +66,46 @@ fn command<'a>(alloc: Global, words: &CommandWords) -> Result<Command<'a>, NoMem
     }
 }
 
-fn with_search<'a>(alloc: Global, command: Command<'a>) -> Result<Command<'a>, NoMemory> {
+fn with_search<'a>(alloc: Global, command: Command<'a>) -> Result<Command<'a>, NoMemory>
+    ensures { IfOk result (λ with. app_of with ≡ more_rules (app_of command.entry) search_rules) }
+{
     let command = with_arguments(alloc, command, &SEARCH)?;
-    let command = with_reaches(alloc, command)?;
+    let command = with_numbers(alloc, command, &REACHES)?;
     with_arguments(alloc, command, &SEARCH_BY_STAGES)
 }
 
-// With the options that say how far the certificates of each kind are searched for.
-fn with_reaches<'a>(alloc: Global, command: Command<'a>) -> Result<Command<'a>, NoMemory> {
+#[tactic(auto, unfolding(crate::specs::inside::with_reaches))]
+fn with_numbers<'a>(
+    alloc: Global,
+    command: Command<'a>,
+    numbers: &[Number],
+) -> Result<Command<'a>, NoMemory>
+    ensures { IfOk result (λ with. app_of with ≡ with_reaches (app_of command.entry) numbers.now) }
+{
     let mut command = command;
-    for number in &REACHES {
+    for number in numbers {
         command = command.arg(number_arg(alloc, number))?;
     }
     Ok(command)
 }
 
-fn empty_command<'a>(alloc: Global, words: &CommandWords) -> Command<'a> {
+fn empty_command<'a>(alloc: Global, words: &CommandWords) -> Command<'a>
+    ensures { app_of result ≡ new_app words.now.name.now }
+{
     Command::new(alloc, words.name)
         .about(words.about)
         .after_help(BRIEF)
         .after_long_help(words.after_help)
 }
 
+#[tactic(auto, unfolding(crate::specs::inside::with_arguments))]
 fn with_arguments<'a>(
     alloc: Global,
     command: Command<'a>,
     arguments: &[Argument],
-) -> Result<Command<'a>, NoMemory> {
+) -> Result<Command<'a>, NoMemory>
+    ensures { IfOk result (λ with. app_of with ≡ with_arguments (app_of command.entry) arguments.now) }
+{
     let mut command = command;
     for argument in arguments {
         command = with_argument(alloc, command, argument)?;
@@ -88,11 +117,15 @@ fn with_argument<'a>(
     alloc: Global,
     command: Command<'a>,
     argument: &Argument,
-) -> Result<Command<'a>, NoMemory> {
+) -> Result<Command<'a>, NoMemory>
+    ensures { IfOk result (λ with. app_of with ≡ with_rule (app_of command.entry) (argument_rule argument.now)) }
+{
     command.arg(built(alloc, argument)?)
 }
 
-fn built<'a>(alloc: Global, argument: &Argument) -> Result<Arg<'a>, NoMemory> {
+fn built<'a>(alloc: Global, argument: &Argument) -> Result<Arg<'a>, NoMemory>
+    ensures { IfOk result (IsBy (argument_rule argument.now)) }
+{
     match argument {
         Argument::Number(number) => Ok(number_arg(alloc, number)),
         Argument::Text(text) => Ok(text_arg(alloc, text)),
@@ -102,7 +135,9 @@ fn built<'a>(alloc: Global, argument: &Argument) -> Result<Arg<'a>, NoMemory> {
     }
 }
 
-fn number_arg<'a>(alloc: Global, number: &Number) -> Arg<'a> {
+fn number_arg<'a>(alloc: Global, number: &Number) -> Arg<'a>
+    ensures { IsBy (number_rule number.now) result }
+{
     let arg = valued(alloc, number.name, number.value)
         .value_parser(ValueParser::unsigned(number.least, number.most))
         .help(number.help);
@@ -112,12 +147,16 @@ fn number_arg<'a>(alloc: Global, number: &Number) -> Arg<'a> {
     }
 }
 
-fn text_arg<'a>(alloc: Global, text: &Text) -> Arg<'a> {
+fn text_arg<'a>(alloc: Global, text: &Text) -> Arg<'a>
+    ensures { IsBy (text_rule text.now) result }
+{
     valued(alloc, text.name, text.value).help(text.help)
 }
 
 // A text in whose place the flag may stand.
-fn text_unless<'a>(alloc: Global, text: &Text, flag: &'static str) -> Result<Arg<'a>, NoMemory> {
+fn text_unless<'a>(alloc: Global, text: &Text, flag: &'static str) -> Result<Arg<'a>, NoMemory>
+    ensures { IfOk result (IsBy (record (text_rule text.now) { required = false; is_free = false })) }
+{
     text_arg(alloc, text)
         .required(false)
         .required_unless_present(flag)?
@@ -125,18 +164,24 @@ fn text_unless<'a>(alloc: Global, text: &Text, flag: &'static str) -> Result<Arg
 }
 
 // An option, where help has a name for its value; else an argument.
-fn valued<'a>(alloc: Global, name: &'static str, value: Option<&'static str>) -> Arg<'a> {
+fn valued<'a>(alloc: Global, name: &'static str, value: Option<&'static str>) -> Arg<'a>
+    ensures { IsBy (valued_rule name.entry.now value.entry) result }
+{
     match value {
         Some(value) => option(alloc, name).value_name(value),
         None => Arg::new(alloc, name).required(true),
     }
 }
 
-fn option<'a>(alloc: Global, name: &'static str) -> Arg<'a> {
+fn option<'a>(alloc: Global, name: &'static str) -> Arg<'a>
+    ensures { IsBy (record (new_rule name.entry.now) { long = Some name.entry.now }) result }
+{
     Arg::new(alloc, name).long(name)
 }
 
-fn flag_arg<'a>(alloc: Global, flag: &Flag) -> Result<Arg<'a>, NoMemory> {
+fn flag_arg<'a>(alloc: Global, flag: &Flag) -> Result<Arg<'a>, NoMemory>
+    ensures { IfOk result (IsBy (flag_rule flag.now)) }
+{
     option(alloc, flag.name)
         .action(ArgAction::SetTrue)
         .help(flag.help)

@@ -409,6 +409,7 @@ An answer is one of
   refused 201        the certificate doesn't stand
   refused 202        it asks for more than its limit
   refused 203        its check gets too large: more than 65,536 paths to a halting pair, or a number over 2^31
+  refused 204        its run isn't seen to repeat, so nothing is known of the table (P of Skelet 1 alone)
   refused 301 F P    no table: its fault is F (101 length, 102 bar, 103 symbol, 104 direction,
                      105 state), at place P
   refused 302        no such kind, or another number of fields

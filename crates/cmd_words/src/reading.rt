@@ -1,11 +1,14 @@
 // From what clap made of the words to the options.
-ghost use Rattle.std.specs.Prelude.{◌≡◌, ◌≤◌, IfOk, IfSome};
+ghost use Rattle.std.specs.Prelude.{◌≡◌, ◌≤◌, IfOk, IfSome, codes, map};
 ghost use Rattle.cmd_options.specs.Ranges.{AreWithinRanges, IsSettling, IsWithinRange};
+ghost use Rattle.cmd_words.specs.Asked.{AskFor, AsksFor, AsksFile, AsksSaving, AsksSearch, AsksSettling};
+ghost use Rattle.cmd_words.specs.Given.{IsArgument, IsFlag, IsLedger, IsNumber, IsNumberIf, IsTextIf, IsWrittenAt, rows_found};
 
 use crate::arguments::*;
 use crate::coordinating::coord_options;
 use crate::grammar::program;
 use crate::line_fault::LineFault;
+use crate::words::{Flag, Text};
 use clap::error::ErrorKind;
 use clap::{ArgMatches, Error};
 use cmd_options::{
@@ -19,10 +22,11 @@ use std::alloc::Global;
 // In place of a path: standard input.
 const STANDARD_INPUT: &str = "-";
 
-/// What the words of a command line ask for, the program's name first. Where there are options, each number
-/// is within its range.
+/// What the words of a command line ask for, the program's name first: of the command that they name, each option is what
+/// clap's matches have under its name, for these words and the program's grammar. Each number is within its range.
 pub fn options<'a>(alloc: Global, words: &'a [&'a str]) -> Result<Options<'a>, LineFault>
-    ensures { IfOk result AreWithinRanges }
+    ensures within { IfOk result AreWithinRanges }
+    ensures asked { IfOk result (AskFor (map (λ word. word.now) words.entry.now)) }
 {
     let matches = match program(alloc)?.try_get_matches_from(words) {
         Ok(matches) => matches,
@@ -37,7 +41,8 @@ pub fn options<'a>(alloc: Global, words: &'a [&'a str]) -> Result<Options<'a>, L
 // What the command of a name asks for. A function of its own: the proof of so many ways out of one that owns clap's
 // matches would be dear.
 fn asked<'a>(name: &str, command: &ArgMatches<'a>) -> Result<Options<'a>, LineFault>
-    ensures { IfOk result AreWithinRanges }
+    ensures within { IfOk result AreWithinRanges }
+    ensures asked { IfOk result (AsksFor name.now (rows_found command.now)) }
 {
     match name {
         "check" => Ok(check_options(command)),
@@ -123,7 +128,8 @@ fn quotes(alloc: Global, text: &str, word: &str) -> Result<bool, NoMemory> {
 
 // How far to search. clap has refused what is out of range.
 fn search_of<'a>(matches: &ArgMatches<'a>) -> Result<Search<'a>, LineFault>
-    ensures { IfOk result IsWithinRange }
+    ensures within { IfOk result IsWithinRange }
+    ensures asked { IfOk result (AsksSearch (rows_found matches.now)) }
 {
     Ok(Search {
         known: known_of(matches)?,
@@ -134,13 +140,15 @@ fn search_of<'a>(matches: &ArgMatches<'a>) -> Result<Search<'a>, LineFault>
         words: number_of(matches, WORDS)?,
         count: number_of(matches, COUNT)?,
         rules: number_of(matches, RULES)?,
-        hard: matches.get_flag(HARD.name),
+        hard: flag_of(matches, HARD),
     })
 }
 
 // The file of records that are looked up first, if there is one.
-fn known_of<'a>(matches: &ArgMatches<'a>) -> Result<Option<&'a str>, LineFault> {
-    match matches.get_str(KNOWN.name) {
+fn known_of<'a>(matches: &ArgMatches<'a>) -> Result<Option<&'a str>, LineFault>
+    ensures { IfOk result (IsTextIf (rows_found matches.now) (codes "known")) }
+{
+    match text_of(matches, KNOWN) {
         Some("-") => Err(LineFault::KnownFromInput),
         known => Ok(known),
     }
@@ -148,7 +156,8 @@ fn known_of<'a>(matches: &ArgMatches<'a>) -> Result<Option<&'a str>, LineFault> 
 
 // The number of an option.
 pub(crate) fn number_of(matches: &ArgMatches<'_>, number: Number) -> Result<u64, LineFault>
-    ensures { IfOk result (λ given. (number.least ≤ given) × (given ≤ number.most)) }
+    ensures within { IfOk result (λ given. (number.least ≤ given) × (given ≤ number.most)) }
+    ensures given { IfOk result (IsNumber (rows_found matches.now) number.name.now) }
 {
     match matches.get_one::<u64>(number.name) {
         Some(given) if number.least <= given && given <= number.most => Ok(given),
@@ -158,7 +167,8 @@ pub(crate) fn number_of(matches: &ArgMatches<'_>, number: Number) -> Result<u64,
 
 // The number of an option that may be left out.
 fn number_if_given(matches: &ArgMatches<'_>, number: Number) -> Result<Option<u64>, LineFault>
-    ensures { IfOk result (λ given. IfSome given (λ given. (number.least ≤ given) × (given ≤ number.most))) }
+    ensures within { IfOk result (λ given. IfSome given (λ given. (number.least ≤ given) × (given ≤ number.most))) }
+    ensures given { IfOk result (IsNumberIf (rows_found matches.now) number.name.now) }
 {
     if matches.get_str(number.name).is_none() {
         return Ok(None);
@@ -166,15 +176,47 @@ fn number_if_given(matches: &ArgMatches<'_>, number: Number) -> Result<Option<u6
     Ok(Some(number_of(matches, number)?))
 }
 
+// The text of an option, if it is given.
+pub(crate) fn text_of<'a>(matches: &ArgMatches<'a>, text: Text) -> Option<&'a str>
+    ensures { IsTextIf (rows_found matches.now) text.name.now result }
+{
+    matches.get_str(text.name)
+}
+
+// The text of an argument. clap has refused words without it.
+fn argument_of<'a>(matches: &ArgMatches<'a>, text: Text) -> &'a str
+    ensures { IsArgument (rows_found matches.now) text.name.now result }
+{
+    text_of(matches, text).unwrap_or_default()
+}
+
+// Whether an option without a value is given.
+pub(crate) fn flag_of(matches: &ArgMatches<'_>, flag: Flag) -> bool
+    ensures { IsFlag (rows_found matches.now) flag.name.now result }
+{
+    matches.get_flag(flag.name)
+}
+
 // The ledger that is kept, if one is.
-pub(crate) fn ledger_of<'a>(matches: &ArgMatches<'a>) -> Option<LedgerFile<'a>> {
-    let path = matches.get_str(LEDGER.name)?;
+pub(crate) fn ledger_of<'a>(matches: &ArgMatches<'a>) -> Option<LedgerFile<'a>>
+    ensures { IsLedger (rows_found matches.now) result }
+{
+    let path = text_of(matches, LEDGER)?;
     Some(written_of(matches, path))
 }
 
+// The ledger that the argument names.
+fn file_of<'a>(matches: &ArgMatches<'a>) -> LedgerFile<'a>
+    ensures { AsksFile (rows_found matches.now) result }
+{
+    written_of(matches, argument_of(matches, FILE))
+}
+
 // The ledger at a path, as it is to be written.
-pub(crate) fn written_of<'a>(matches: &ArgMatches<'a>, path: &'a str) -> LedgerFile<'a> {
-    let durability = if matches.get_flag(SYNC.name) {
+pub(crate) fn written_of<'a>(matches: &ArgMatches<'a>, path: &'a str) -> LedgerFile<'a>
+    ensures { IsWrittenAt (rows_found matches.now) (Some path.entry.now) result }
+{
+    let durability = if flag_of(matches, SYNC) {
         Durability::Disk
     } else {
         Durability::System
@@ -183,59 +225,65 @@ pub(crate) fn written_of<'a>(matches: &ArgMatches<'a>, path: &'a str) -> LedgerF
 }
 
 fn check_options<'a>(check: &ArgMatches<'a>) -> Options<'a>
-    ensures { AreWithinRanges result }
+    ensures within { AreWithinRanges result }
+    ensures asked { AsksFor (codes "check") (rows_found check.now) result }
 {
     Options::Check(Checking {
-        json: check.get_flag(LINE_JSON.name),
-        why: check.get_flag(RECORD_WHY.name),
+        json: flag_of(check, LINE_JSON),
+        why: flag_of(check, RECORD_WHY),
     })
 }
 
 fn decide_options<'a>(decide: &ArgMatches<'a>) -> Result<Options<'a>, LineFault>
-    ensures { IfOk result AreWithinRanges }
+    ensures within { IfOk result AreWithinRanges }
+    ensures asked { IfOk result (AsksFor (codes "decide") (rows_found decide.now)) }
 {
     Ok(Options::Decide(Deciding {
         search: search_of(decide)?,
-        json: decide.get_flag(LINE_JSON.name),
-        progress: decide.get_flag(PROGRESS.name),
+        json: flag_of(decide, LINE_JSON),
+        progress: flag_of(decide, PROGRESS),
     }))
 }
 
 fn explain_options<'a>(explain: &ArgMatches<'a>) -> Options<'a>
-    ensures { AreWithinRanges result }
+    ensures within { AreWithinRanges result }
+    ensures asked { AsksFor (codes "explain") (rows_found explain.now) result }
 {
     Options::Explain {
-        json: explain.get_flag(LINE_JSON.name),
+        json: flag_of(explain, LINE_JSON),
     }
 }
 
 fn show_options<'a>(show: &ArgMatches<'a>) -> Result<Options<'a>, LineFault>
-    ensures { IfOk result AreWithinRanges }
+    ensures within { IfOk result AreWithinRanges }
+    ensures asked { IfOk result (AsksFor (codes "show") (rows_found show.now)) }
 {
     Ok(Options::Show(Showing {
         from: number_of(show, FROM)?,
         steps: number_of(show, SHOWN)?,
         every: number_of(show, EVERY)?,
-        fold: show.get_flag(FOLD.name),
+        fold: flag_of(show, FOLD),
     }))
 }
 
 fn tables_options<'a>(tables: &ArgMatches<'a>) -> Result<Options<'a>, LineFault>
-    ensures { IfOk result AreWithinRanges }
+    ensures within { IfOk result AreWithinRanges }
+    ensures asked { IfOk result (AsksFor (codes "tables") (rows_found tables.now)) }
 {
     Ok(Options::Tables(Listing {
-        normal: tables.get_flag(NORMAL.name),
+        normal: flag_of(tables, NORMAL),
         steps: number_of(tables, RUN_STEPS)?,
-        records: tables.get_flag(WITH_RECORDS.name),
+        records: flag_of(tables, WITH_RECORDS),
     }))
 }
 
 fn work_options<'a>(work: &ArgMatches<'a>) -> Result<Options<'a>, LineFault>
-    ensures { IfOk result AreWithinRanges }
+    ensures within { IfOk result AreWithinRanges }
+    ensures asked { IfOk result (AsksFor (codes "work") (rows_found work.now)) }
 {
     Ok(Options::Work(Working {
-        connect: work.get_str(CONNECT.name),
-        token: work.get_str(WORK_TOKEN.name),
+        connect: text_of(work, CONNECT),
+        token: text_of(work, WORK_TOKEN),
         tries: number_of(work, TRIES)?,
         first_id: first_id_of(work)?,
         workers: number_of(work, IDS)? as u8,
@@ -246,7 +294,8 @@ fn work_options<'a>(work: &ArgMatches<'a>) -> Result<Options<'a>, LineFault>
 
 // The id of the first worker, where one is given.
 fn first_id_of(work: &ArgMatches<'_>) -> Result<Option<u32>, LineFault>
-    ensures { IfOk result (λ id. IfSome id (λ id. id ≤ 4294967232)) }
+    ensures within { IfOk result (λ id. IfSome id (λ id. id ≤ 4294967232)) }
+    ensures given { IfOk result (IsNumberIf (rows_found work.now) (codes "id")) }
 {
     match number_if_given(work, ID)? {
         Some(id) => Ok(Some(id as u32)),
@@ -255,7 +304,8 @@ fn first_id_of(work: &ArgMatches<'_>) -> Result<Option<u32>, LineFault>
 }
 
 fn run_options<'a>(run: &ArgMatches<'a>) -> Result<Options<'a>, LineFault>
-    ensures { IfOk result AreWithinRanges }
+    ensures within { IfOk result AreWithinRanges }
+    ensures asked { IfOk result (AsksFor (codes "run") (rows_found run.now)) }
 {
     let lose = number_if_given(run, LOSE)?;
     Ok(Options::Run {
@@ -265,7 +315,8 @@ fn run_options<'a>(run: &ArgMatches<'a>) -> Result<Options<'a>, LineFault>
 }
 
 fn loop_options<'a>(over_sockets: &ArgMatches<'a>) -> Result<Options<'a>, LineFault>
-    ensures { IfOk result AreWithinRanges }
+    ensures within { IfOk result AreWithinRanges }
+    ensures asked { IfOk result (AsksFor (codes "loop") (rows_found over_sockets.now)) }
 {
     Ok(Options::Loop {
         settling: settling_of(over_sockets, None)?,
@@ -276,7 +327,8 @@ fn loop_options<'a>(over_sockets: &ArgMatches<'a>) -> Result<Options<'a>, LineFa
 // How a tree is settled, where so many frames are lost.
 fn settling_of<'a>(matches: &ArgMatches<'a>, lose: Option<u64>) -> Result<Settling<'a>, LineFault>
     requires { IfSome lose (λ every. (2 ≤ every) × (every ≤ 1000)) }
-    ensures { IfOk result (λ settling. IsSettling settling × (settling.lose ≡ lose)) }
+    ensures within { IfOk result (λ settling. IsSettling settling × (settling.lose ≡ lose)) }
+    ensures asked { IfOk result (AsksSettling (rows_found matches.now)) }
 {
     Ok(Settling {
         states: number_of(matches, STATES)? as u8,
@@ -284,103 +336,112 @@ fn settling_of<'a>(matches: &ArgMatches<'a>, lose: Option<u64>) -> Result<Settli
         lose,
         rounds: number_of(matches, ROUNDS)?,
         search: search_of(matches)?,
-        json: matches.get_flag(JSON.name),
-        progress: matches.get_flag(PROGRESS.name),
+        json: flag_of(matches, JSON),
+        progress: flag_of(matches, PROGRESS),
     })
 }
 
 fn walk_options<'a>(walk: &ArgMatches<'a>) -> Result<Options<'a>, LineFault>
-    ensures { IfOk result AreWithinRanges }
+    ensures within { IfOk result AreWithinRanges }
+    ensures asked { IfOk result (AsksFor (codes "walk") (rows_found walk.now)) }
 {
     Ok(Options::Walk(Walking {
         states: number_of(walk, STATES)? as u8,
-        root: walk.get_str(ROOT.name),
+        root: text_of(walk, ROOT),
         saving: saving_of(walk)?,
         search: search_of(walk)?,
-        json: walk.get_flag(JSON.name),
-        progress: walk.get_flag(PROGRESS.name),
+        json: flag_of(walk, JSON),
+        progress: flag_of(walk, PROGRESS),
     }))
 }
 
 // Where records are saved that were dear to find, if they are.
 fn saving_of<'a>(walk: &ArgMatches<'a>) -> Result<Option<Saving<'a>>, LineFault>
-    ensures { IfOk result (λ saving. IfSome saving (λ saving. saving.dear ≤ 100000000)) }
+    ensures within { IfOk result (λ saving. IfSome saving (λ saving. saving.dear ≤ 100000000)) }
+    ensures asked { IfOk result (AsksSaving (rows_found walk.now)) }
 {
     let dear = number_of(walk, DEAR)?;
-    match walk.get_str(SAVE.name) {
+    match text_of(walk, SAVE) {
         Some(path) => Ok(Some(Saving { path, dear })),
         None => Ok(None),
     }
 }
 
 fn retry_options<'a>(retry: &ArgMatches<'a>) -> Result<Options<'a>, LineFault>
-    ensures { IfOk result AreWithinRanges }
+    ensures within { IfOk result AreWithinRanges }
+    ensures asked { IfOk result (AsksFor (codes "retry") (rows_found retry.now)) }
 {
     Ok(Options::Retry(Retrying {
-        file: written_of(retry, retry.get_str(FILE.name).unwrap_or_default()),
+        file: file_of(retry),
         search: search_of(retry)?,
-        progress: retry.get_flag(PROGRESS.name),
+        progress: flag_of(retry, PROGRESS),
     }))
 }
 
 fn merge_options<'a>(merge: &ArgMatches<'a>) -> Options<'a>
-    ensures { AreWithinRanges result }
+    ensures within { AreWithinRanges result }
+    ensures asked { AsksFor (codes "merge") (rows_found merge.now) result }
 {
     Options::Merge(Merging {
-        first: merge.get_str(FIRST.name).unwrap_or_default(),
-        second: merge.get_str(SECOND.name).unwrap_or_default(),
-        out: merge.get_str(MERGED.name).unwrap_or_default(),
+        first: argument_of(merge, FIRST),
+        second: argument_of(merge, SECOND),
+        out: argument_of(merge, MERGED),
     })
 }
 
 fn carry_options<'a>(carry: &ArgMatches<'a>) -> Options<'a>
-    ensures { AreWithinRanges result }
+    ensures within { AreWithinRanges result }
+    ensures asked { AsksFor (codes "carry") (rows_found carry.now) result }
 {
     Options::Carry(Carrying {
-        ledger: carry.get_str(OLD.name).unwrap_or_default(),
-        out: carry.get_str(CARRIED.name).unwrap_or_default(),
+        ledger: argument_of(carry, OLD),
+        out: argument_of(carry, CARRIED),
     })
 }
 
 fn mend_options<'a>(mend: &ArgMatches<'a>) -> Options<'a>
-    ensures { AreWithinRanges result }
+    ensures within { AreWithinRanges result }
+    ensures asked { AsksFor (codes "mend") (rows_found mend.now) result }
 {
     Options::Mend(Mending {
-        ledger: mend.get_str(DAMAGED.name).unwrap_or_default(),
-        out: mend.get_str(MENDED.name).unwrap_or_default(),
+        ledger: argument_of(mend, DAMAGED),
+        out: argument_of(mend, MENDED),
     })
 }
 
 fn split_options<'a>(split: &ArgMatches<'a>) -> Result<Options<'a>, LineFault>
-    ensures { IfOk result AreWithinRanges }
+    ensures within { IfOk result AreWithinRanges }
+    ensures asked { IfOk result (AsksFor (codes "split") (rows_found split.now)) }
 {
     Ok(Options::Split(Splitting {
         states: number_of(split, STATES)? as u8,
-        folder: split.get_str(FOLDER.name).unwrap_or_default(),
+        folder: argument_of(split, FOLDER),
         filled: number_of(split, FILLED)? as u8,
         search: search_of(split)?,
-        progress: split.get_flag(PROGRESS.name),
+        progress: flag_of(split, PROGRESS),
     }))
 }
 
 fn settle_options<'a>(settle: &ArgMatches<'a>) -> Result<Options<'a>, LineFault>
-    ensures { IfOk result AreWithinRanges }
+    ensures within { IfOk result AreWithinRanges }
+    ensures asked { IfOk result (AsksFor (codes "settle") (rows_found settle.now)) }
 {
     Ok(Options::Settle(LedgerSettling {
-        file: written_of(settle, settle.get_str(FILE.name).unwrap_or_default()),
+        file: file_of(settle),
         search: search_of(settle)?,
-        progress: settle.get_flag(PROGRESS.name),
+        progress: flag_of(settle, PROGRESS),
     }))
 }
 
 fn join_options<'a>(join: &ArgMatches<'a>) -> Result<Options<'a>, LineFault>
-    ensures { IfOk result AreWithinRanges }
+    ensures within { IfOk result AreWithinRanges }
+    ensures asked { IfOk result (AsksFor (codes "join") (rows_found join.now)) }
 {
     let joining = Joining {
-        folder: join.get_str(JOIN_READ.name).unwrap_or_default(),
-        out: join.get_str(JOINED.name),
-        json: join.get_flag(JSON.name),
-        progress: join.get_flag(PROGRESS.name),
+        folder: argument_of(join, JOIN_READ),
+        out: text_of(join, JOINED),
+        json: flag_of(join, JSON),
+        progress: flag_of(join, PROGRESS),
     };
     if joining.folder == STANDARD_INPUT && joining.out.is_some() {
         return Err(LineFault::LedgerOfStream);
@@ -389,16 +450,18 @@ fn join_options<'a>(join: &ArgMatches<'a>) -> Result<Options<'a>, LineFault>
 }
 
 fn look_options<'a>(look: &ArgMatches<'a>) -> Options<'a>
-    ensures { AreWithinRanges result }
+    ensures within { AreWithinRanges result }
+    ensures asked { AsksFor (codes "look") (rows_found look.now) result }
 {
     Options::Look(Looking {
-        path: look.get_str(LOOKED.name).unwrap_or_default(),
-        holdouts: look.get_flag(HOLDOUTS.name),
+        path: argument_of(look, LOOKED),
+        holdouts: flag_of(look, HOLDOUTS),
     })
 }
 
 fn draw_options<'a>(draw: &ArgMatches<'a>) -> Result<Options<'a>, LineFault>
-    ensures { IfOk result AreWithinRanges }
+    ensures within { IfOk result AreWithinRanges }
+    ensures asked { IfOk result (AsksFor (codes "draw") (rows_found draw.now)) }
 {
     Ok(Options::Draw(Drawing {
         from: number_of(draw, FROM)?,
@@ -408,28 +471,30 @@ fn draw_options<'a>(draw: &ArgMatches<'a>) -> Result<Options<'a>, LineFault>
         columns: number_of(draw, COLUMNS)?,
         square: number_of(draw, SQUARE)?,
         height: number_if_given(draw, HEIGHT)?,
-        png: draw.get_flag(PNG.name),
-        out: draw.get_str(PICTURES.name),
+        png: flag_of(draw, PNG),
+        out: text_of(draw, PICTURES),
     }))
 }
 
 fn page_options<'a>(page: &ArgMatches<'a>) -> Options<'a>
-    ensures { AreWithinRanges result }
+    ensures within { AreWithinRanges result }
+    ensures asked { AsksFor (codes "page") (rows_found page.now) result }
 {
     // No ledger is named exactly where --table is given: clap has refused both and neither.
     Options::Page(Paging {
-        ledger: page.get_str(PAGED.name),
-        title: page.get_str(TITLE.name),
+        ledger: text_of(page, PAGED),
+        title: text_of(page, TITLE),
     })
 }
 
 fn report_options<'a>(report: &ArgMatches<'a>) -> Options<'a>
-    ensures { AreWithinRanges result }
+    ensures within { AreWithinRanges result }
+    ensures asked { AsksFor (codes "report") (rows_found report.now) result }
 {
     Options::Report(Reporting {
-        file: report.get_str(READ.name).unwrap_or_default(),
-        json: report.get_flag(JSON.name),
-        why: report.get_flag(WHY.name),
-        progress: report.get_flag(PROGRESS.name),
+        file: argument_of(report, READ),
+        json: flag_of(report, JSON),
+        why: flag_of(report, WHY),
+        progress: flag_of(report, PROGRESS),
     })
 }

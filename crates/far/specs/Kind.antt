@@ -51,7 +51,8 @@ far_kind = record {
     within = AreSized a;
     wide = λ p. ⊥;
     stands = λ p. AreAutomata a × AreAutomataOf a p;
-    takes_memory = ⊥;
+    unseen = λ p. ⊥;
+    takes_memory = λ p. ⊥;
   };
   law = λ a p table stands. automata_never p.states (entry_of p) a.side (described a) (table_machine p table)
       stands.1.fits;

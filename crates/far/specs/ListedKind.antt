@@ -22,7 +22,8 @@ listed_kind = record {
     within = AreWithinRecord t;
     wide = λ p. ⊥;
     stands = λ p. AreTextsOf t p;
-    takes_memory = Unit {0};
+    unseen = λ p. ⊥;
+    takes_memory = λ p. Unit {0};
   };
   law = λ t p table stands. automata_never p.states (entry_of p) stands.automata.side (described_by stands.automata)
       (table_machine p table) stands.fit.fits;

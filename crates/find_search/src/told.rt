@@ -27,7 +27,7 @@ impl Told {
         };
         match judge(alloc, &record) {
             Ok(verdict) => Ok(verdict.is_some()),
-            Err(Refused::NoMemory) => Err(NoMemory),
+            Err(Refused::NotSeen | Refused::NoMemory) => Err(NoMemory),
             Err(_) => Ok(false),
         }
     }

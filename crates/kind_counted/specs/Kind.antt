@@ -19,7 +19,8 @@ counted_kind = record {
     within = AreWithinLimits t;
     wide = λ p. GetTooLargeFor t p;
     stands = λ p. AreCosetsOf t p;
-    takes_memory = Unit {0};
+    unseen = λ p. ⊥;
+    takes_memory = λ p. Unit {0};
   };
   law = λ t p table stands. counted_never (entry_of p) stands.counted stands.stand;
 }

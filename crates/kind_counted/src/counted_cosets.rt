@@ -80,6 +80,7 @@ impl<'a> CountedCosets<'a> {
         ensures fails { result ≡ Err Refused.Fails → AreCosetsOf (coset_texts_of self.now) t.now → ⊥ }
         ensures small { result ≡ Err Refused.Fails → GetTooLargeFor (coset_texts_of self.now) t.now → ⊥ }
         ensures long { result ≡ Err Refused.TooLong → ⊥ }
+        ensures seen { result ≡ Err Refused.NotSeen → ⊥ }
         ensures wide { result ≡ Err Refused.TooWide → GetTooLargeFor (coset_texts_of self.now) t.now }
     {
         if t.states() != self.texts.states {

@@ -13,5 +13,7 @@ pub record Meaning : Type 1 where
   pub wide : Packed → Type 0
   -- it is so of the table
   pub stands : Packed → Type 0
-  -- to check it takes memory: it is one that has to be worked out, and isn't judged as it is written
-  pub takes_memory : Type 0
+  -- its check of the table may end without having seen whether it is so
+  pub unseen : Packed → Type 0
+  -- to check it of the table takes memory: it is one that has to be worked out, and isn't judged as it is written
+  pub takes_memory : Packed → Type 0

@@ -8,7 +8,7 @@ use Rattle.kind_evidence.specs.declared.verdicts.Verdict.TheVariants.{Halts, Nev
 use Rattle.kind_evidence.specs.declared.verdicts.Ending.{Ending}
 use Rattle.kind_evidence.specs.declared.verdicts.Ending.TheVariants.{Halts as Halting, Never as NeverEnding}
 use Rattle.kind_evidence.specs.declared.verdicts.Refused.{Refused}
-use Rattle.kind_evidence.specs.declared.verdicts.Refused.TheVariants.{Fails, TooLong, TooWide, NoMemory}
+use Rattle.kind_evidence.specs.declared.verdicts.Refused.TheVariants.{Fails, TooLong, TooWide, NotSeen, NoMemory}
 
 -- the verdict says of the machine's run from the blank tape what is so
 abbrev pub IsTrueOf : Verdict → Machine → Type 0
@@ -25,4 +25,5 @@ abbrev pub refused_number : Refused → Option ℕ
 refused_number Fails = Some 201
 refused_number TooLong = Some 202
 refused_number TooWide = Some 203
+refused_number NotSeen = Some 204
 refused_number NoMemory = None

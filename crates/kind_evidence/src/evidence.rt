@@ -18,8 +18,8 @@ pub trait Evidence {
     /// The verdict on a table for which the claim is made.
     ghost shows: { Self → Packed → Said };
 
-    /// Checks the claim. The limit is judged first, then whether it is too wide, then whether it stands. Memory is
-    /// refused only where the claim takes some.
+    /// Checks the claim. The limit is judged first, then whether it is too wide, then whether it stands. It is not seen
+    /// and memory is refused only where the claim allows for it.
     fn check(&self, alloc: Global, t: &Table) -> Result<Verdict, Refused>
         ensures ok { IfOk result (λ v. (v ≡ shows self.now t.now) × (meaning self.now).within
             × (meaning self.now).stands t.now × ((meaning self.now).wide t.now → ⊥)) }
@@ -27,7 +27,8 @@ pub trait Evidence {
             × ((meaning self.now).stands t.now → ⊥) }
         ensures long { result ≡ Err Refused.TooLong → (meaning self.now).within → ⊥ }
         ensures wide { result ≡ Err Refused.TooWide → (meaning self.now).within × (meaning self.now).wide t.now }
-        ensures memory { result ≡ Err Refused.NoMemory → (meaning self.now).takes_memory };
+        ensures unseen { result ≡ Err Refused.NotSeen → (meaning self.now).unseen t.now }
+        ensures memory { result ≡ Err Refused.NoMemory → (meaning self.now).takes_memory t.now };
 
     /// A claim that stands makes its verdict true.
     ghost law: { (e : Self) (p : Packed) → IsTable p → (meaning e).stands p → IsTrueOf (shows e p) (entry_of p) };

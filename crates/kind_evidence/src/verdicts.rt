@@ -32,6 +32,8 @@ pub enum Refused {
     /// The check asks for more than its kind allows: more paths of one depth than backward reasoning keeps, or larger
     /// numbers than counted automata may have.
     TooWide,
+    /// The check ended without having seen whether the evidence holds: nothing is known of the table.
+    NotSeen,
     /// Memory was refused.
     NoMemory,
 }
@@ -40,7 +42,7 @@ impl Refused {
     ghost use Rattle.std.specs.Prelude.{◌≡◌};
     ghost use Rattle.kind_evidence.specs.Verdict.{refused_number};
 
-    /// The refusal number: 201 to 203; none where memory was refused.
+    /// The refusal number: 201 to 204; none where memory was refused.
     pub fn number(&self) -> Option<u16>
         ensures { result ≡ refused_number self.now }
     {
@@ -48,6 +50,7 @@ impl Refused {
             Refused::Fails => Some(201),
             Refused::TooLong => Some(202),
             Refused::TooWide => Some(203),
+            Refused::NotSeen => Some(204),
             Refused::NoMemory => None,
         }
     }
@@ -62,6 +65,7 @@ impl fmt::Display for Refused {
                 f,
                 "it asks for more paths, or larger numbers, than its check keeps"
             ),
+            Refused::NotSeen => write!(f, "its run is not seen to repeat"),
             Refused::NoMemory => write!(f, "out of memory"),
         }
     }

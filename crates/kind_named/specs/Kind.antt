@@ -9,6 +9,7 @@ use Rattle.text.specs.declared.fields.FieldFault.{FieldFault}
 use Rattle.text.specs.declared.fields.FieldFault.TheVariants.{BadKind}
 use Rattle.kind_evidence.specs.Kind.{Kind}
 use Rattle.kind_named.specs.Named.{NeverByName}
+use Rattle.kind_named.specs.Table.{skelet1}
 use Rattle.kind_named.specs.declared.named.Named.{Named}
 
 abbrev pub named_by : List (List ℕ) → Result Named FieldFault
@@ -23,7 +24,7 @@ abbrev pub named_never : (p : Packed) → IsTable p → NeverByName p → Never 
 named_never p table (inl proved) = never_by_text proved.0 p (table_of-text_of p table) proved.1
 named_never p table (inr seen) = subst (λ o. Never (entry_of o)) (sym seen.0) seen.1
 
--- the table is one of these; to see it of Skelet 1 takes memory
+-- the table is one of these; to see it of Skelet 1 takes memory, and what is tried may not be enough
 abbrev pub named_kind : Kind Named
 named_kind = record {
   letter = codes "P";
@@ -35,7 +36,8 @@ named_kind = record {
     within = Unit {0};
     wide = λ p. ⊥;
     stands = NeverByName;
-    takes_memory = Unit {0};
+    unseen = λ p. p ≡ skelet1;
+    takes_memory = λ p. p ≡ skelet1;
   };
   law = λ e p table stands. named_never p table stands;
 }

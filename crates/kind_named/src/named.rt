@@ -4,6 +4,7 @@ ghost use Rattle.text.specs.Fields.{spaced};
 ghost use Rattle.kind_named.specs.Kind.{named_by, named_fields};
 
 use crate::check::{is_skelet1, never_halts};
+use crate::given_up::GivenUp;
 use crate::main_run::TURNS;
 use kind_evidence::{Evidence, NoMemory, Refused, Verdict};
 use law_machines::is_proved;
@@ -43,7 +44,7 @@ impl Evidence for Named {
     ghost shows = { λ e p. Never };
 
     // For Skelet 1 its run is followed, which takes half a minute. That it is seen to repeat within `TURNS` was tried, not
-    // proved; where it weren't, what the check may take would have run out, and nothing would be known of the table.
+    // proved; where it weren't, nothing would be known of the table.
     fn check(&self, alloc: Global, t: &Table) -> Result<Verdict, Refused> {
         if is_proved(t) {
             return Ok(Verdict::Never);
@@ -53,7 +54,8 @@ impl Evidence for Named {
         }
         match never_halts(alloc, t, TURNS) {
             Ok(true) => Ok(Verdict::Never),
-            _ => Err(Refused::NoMemory),
+            Err(GivenUp::NoMemory) => Err(Refused::NoMemory),
+            _ => Err(Refused::NotSeen),
         }
     }
 

@@ -18,7 +18,8 @@ rules_kind = record {
     within = AreWithinRuleLimits t;
     wide = λ p. ⊥;
     stands = λ p. AreRulesOf t p;
-    takes_memory = Unit {0};
+    unseen = λ p. ⊥;
+    takes_memory = λ p. Unit {0};
   };
   law = λ t p table stands. certificate_never (entry_of p) stands.certificate stands.stand;
 }

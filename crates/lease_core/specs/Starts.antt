@@ -6,7 +6,7 @@ use Rattle.ledger.specs.Contents.{Contents}
 use Rattle.ledger.specs.Versions.{header_words}
 use Rattle.ledger.specs.declared.format.Format.TheVariants.{Two}
 use Rattle.ledger.specs.LedgerText.{HasHeader, HasNoHeader, IsLedgerOf, IsTornHeader, LoadGives}
-use Rattle.ledger.specs.Reading.{IsRead, IsAllRead}
+use Rattle.ledger.specs.Reading.{IsRead, IsAllRead, IsBrokenOff}
 use Rattle.ledger.specs.declared.left.Left.{Left}
 use Rattle.wire.specs.Fulfilled.{text_after}
 use Rattle.wire.specs.declared.node.Note.TheVariants.{Quiet}
@@ -62,7 +62,8 @@ abbrev pub InStep : Coordinating → List ℕ → Type 0
 InStep s text = HeldInStep s.held text
 
 -- a coordinator is started from a reader of its ledger, of which so many bytes are read, or all where there are fewer: as from
--- the bytes that were read. Where memory was refused more may be left to read. Where a read failed it is stopped
+-- the bytes that were read. Where memory was refused more may be left to read. Where a read failed, before so many bytes, it
+-- is stopped
 abbrev pub StartsFrom : ℕ → ℕ → Option (List ℕ) → ℕ → Option (List ℕ) → Coordinating → Result Out StartFault → Type 0
 StartsFrom n era read limit new_read new (Ok out) =
     (text : List ℕ) × IsAllRead read limit text new_read × Starts n era text new (Ok out)
@@ -73,5 +74,5 @@ StartsFrom n era read limit new_read new (Err WrongRoot) = (text : List ℕ) × 
     × Starts n era text new (Err WrongRoot)
 StartsFrom n era read limit new_read new (Err NoMemory) = (text : List ℕ) × IsRead read limit text new_read
     × Starts n era text new (Err NoMemory)
-StartsFrom n era read limit new_read new (Err LedgerFault) = (text : List ℕ) × IsRead read limit text new_read
+StartsFrom n era read limit new_read new (Err LedgerFault) = (text : List ℕ) × IsBrokenOff read limit text new_read
     × (new ≡ not_started era)

@@ -1,11 +1,12 @@
 -- Pieces that are read from a reader and fed to a loader, one after another.
-use Rattle.std.proofs.Common.{◌≡◌, ℕ, ◌+◌, ◌≤◌, List, [], ◌++◌, length, Option, refl, sym, subst, arith, append-nil, length-append}
-use Rattle.std.proofs.KnownBytes.{Consumes-nil, Consumes-trans}
-use Rattle.std.specs.Io.KnownBytes.{Consumes}
+use Rattle.std.proofs.Common.{◌≡◌, ℕ, ◌+◌, ◌<◌, ◌≤◌, List, [], ◌++◌, length, Option, refl, sym, subst, arith, append-nil, length-append}
+use Rattle.std.proofs.KnownBytes.{Consumes-nil, Consumes-kept, Consumes-trans}
+use Rattle.std.specs.Io.KnownBytes.{Consumes, Keeps}
+use Rattle.std.specs.declared.io.Error.{Error}
 use Rattle.ledger.specs.Loading.{Loading, StandsAfter, IsFed, IsStopped}
 use Rattle.ledger.specs.Reading.{StopsReading}
 use Rattle.ledger.specs.declared.feed_stop.FeedStop.{FeedStop}
-use Rattle.ledger.specs.declared.reading.ReadStop.TheVariants.{NoMemory}
+use Rattle.ledger.specs.declared.reading.ReadStop.TheVariants.{Failed, NoMemory}
 use Rattle.ledger.proofs.StageLaws.{fed_more, stop_at}
 
 -- nothing was fed yet
@@ -27,6 +28,18 @@ pub begins : (l : Loading) (read : Option (List ℕ)) (limit : ℕ) → IsGoingO
 begins l read limit = record { text = []; consumed = Consumes-nil read; fed = fed_none l; size = omega arith }
 
 module _ (old : Loading) (read : Option (List ℕ)) (limit : ℕ) (mid : Loading) (mid_read : Option (List ℕ)) (left : ℕ) (going : IsGoingOn old read limit mid mid_read left) where
+  -- a read fails, and there should have been more
+  pub breaks_off : (new_read : Option (List ℕ)) (fault : Error) → Keeps mid_read new_read → 0 < left
+      → StopsReading old read limit (Failed fault) mid new_read
+  breaks_off new_read fault kept more = (
+    going.text,
+    record {
+      is_read = record { consumed = Consumes-kept read mid_read new_read going.text going.consumed kept; within = omega (arith, going.size) };
+      short = omega (arith, going.size, more);
+    },
+    going.fed,
+  )
+
   module _ (new : Loading) (new_read : Option (List ℕ)) (part : List ℕ) (more : Consumes mid_read new_read part) where
     -- a piece is read and fed
     pub goes_on : (after : ℕ) → IsFed mid part new → length part + after ≡ left → IsGoingOn old read limit new new_read after

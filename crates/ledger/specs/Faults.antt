@@ -1,6 +1,6 @@
 -- The refusal number of each fault, which refused memory doesn't have, and the sentence that says it.
 use Rattle.std.specs.Prelude.{ℕ, List, Option, Some, None, codes}
-use Rattle.kind_evidence.specs.declared.verdicts.Refused.TheVariants.{Fails, TooLong, TooWide, NoMemory as WantsMemory}
+use Rattle.kind_evidence.specs.declared.verdicts.Refused.TheVariants.{Fails, TooLong, TooWide, NotSeen, NoMemory as WantsMemory}
 use Rattle.kind_evidence.specs.Verdict.{refused_number}
 use Rattle.cert.specs.Fault.{record_fault_text}
 use Rattle.ledger.specs.declared.faults.BoardFault.{BoardFault}
@@ -43,6 +43,7 @@ offer_fault_text NotOpen = codes "the table is neither open nor a holdout"
 offer_fault_text (IsRefused Fails) = codes "the certificate does not stand for the table"
 offer_fault_text (IsRefused TooLong) = codes "the certificate asks for more than its limit"
 offer_fault_text (IsRefused TooWide) = codes "the certificate needs more paths at one depth than are kept"
+offer_fault_text (IsRefused NotSeen) = codes "the check ended without an answer"
 offer_fault_text (IsRefused WantsMemory) = codes "out of memory"
 offer_fault_text NoOfferMemory = codes "out of memory"
 

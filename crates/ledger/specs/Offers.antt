@@ -3,7 +3,7 @@ use Rattle.std.specs.Prelude.{◌≡◌, ◌≢◌, ◌⊎◌, List, [], ◌∷�
 use Rattle.machine_text.specs.Packed.{Packed}
 use Rattle.law_tree.specs.Closed.{IsComplete, IsVerdict, IsOpen}
 use Rattle.cert.specs.Claim.{Recorded, ending_by}
-use Rattle.cert.specs.Certified.{IsRefusedBy}
+use Rattle.cert.specs.Certified.{IsUnfitBy}
 use Rattle.cert.specs.Scored.{with_score}
 use Rattle.ledger.specs.Contents.{Contents}
 use Rattle.ledger.specs.Records.{claim_in, mark_in}
@@ -39,5 +39,5 @@ OfferGives root old r (Ok Known) new = IsKnown old r × (new ≡ old)
 OfferGives root old r (Ok Settled) new = Resolves old r × (new ≡ resolved old (with_score r))
 OfferGives root old r (Err WrongSize) new = (r.table.states ≢ root.states) × (new ≡ old)
 OfferGives root old r (Err NotOpen) new = (r.table.states ≡ root.states) × IsElsewhere root old r.table × (new ≡ old)
-OfferGives root old r (Err (IsRefused f)) new = IsJudged root old r × IsRefusedBy f r × (new ≡ old)
+OfferGives root old r (Err (IsRefused f)) new = IsJudged root old r × IsUnfitBy f r × (new ≡ old)
 OfferGives root old r (Err NoMemory) new = IsJudged root old r × (new ≡ old)

@@ -143,6 +143,9 @@ impl fmt::Display for OfferFault {
             OfferFault::Refused(Refused::TooWide) => f.write_str(
                 "the certificate needs more paths at one depth than are kept",
             ),
+            OfferFault::Refused(Refused::NotSeen) => f.write_str(
+                "the check ended without an answer",
+            ),
             OfferFault::Refused(Refused::NoMemory) | OfferFault::NoMemory => f.write_str(
                 "out of memory",
             ),

@@ -159,7 +159,7 @@ fn judged(alloc: Global, r: &Record) -> Result<Judged, OfferFault>
 {
     match judge_on(alloc, r) {
         Ok(judged) => Ok(judged),
-        Err(Refused::NoMemory) => Err(OfferFault::NoMemory),
+        Err(Refused::NotSeen | Refused::NoMemory) => Err(OfferFault::NoMemory),
         Err(refused) => Err(OfferFault::Refused(refused)),
     }
 }

@@ -105,7 +105,7 @@ pub record AnswersRefused (r : Recorded) (a : Answer) : Type 0 where
 
 -- the check of such a certificate takes memory, and was refused it
 pub record AnswersNoMemory (r : Recorded) (a : Answer) : Type 0 where
-  pub takes : TakesMemory r.claim
+  pub takes : TakesMemory r.claim r.table
   pub is : a ≡ outcome_alone 4 a.kind
 
 -- an answer to a record, which has its letter

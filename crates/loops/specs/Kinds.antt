@@ -47,7 +47,8 @@ cycle_kind = record {
     within = e.j ≤ time_limit;
     wide = λ p. ⊥;
     stands = λ p. IsCycle (entry_of p) e.i e.j;
-    takes_memory = (e.i < e.j) × (e.j ≤ time_limit);
+    unseen = λ p. ⊥;
+    takes_memory = λ p. (e.i < e.j) × (e.j ≤ time_limit);
   };
   law = λ e p table stands. cycle_never (entry_of p) e.i e.j stands;
 }
@@ -64,7 +65,8 @@ translated_kind = record {
     within = e.j ≤ time_limit;
     wide = λ p. ⊥;
     stands = λ p. IsTranslated (entry_of p) e.i e.j e.side;
-    takes_memory = (e.i < e.j) × (e.j ≤ time_limit);
+    unseen = λ p. ⊥;
+    takes_memory = λ p. (e.i < e.j) × (e.j ≤ time_limit);
   };
   law = λ e p table stands. translated_never (entry_of p) e.i e.j e.side stands;
 }

@@ -46,7 +46,8 @@ ngram_kind = record {
     within = AreWithin s;
     wide = λ p. ⊥;
     stands = λ p. AreLists s × IsPositionSet s p;
-    takes_memory = ⊥;
+    unseen = λ p. ⊥;
+    takes_memory = λ p. ⊥;
   };
   law = λ s p table stands. closed_never (entry_of p) (λ w. IsItem s.width s.left (word_text w))
       (λ w. IsItem s.width s.right (word_text w)) (IsLocalItem s) s.width stands.1.closed;

@@ -2,7 +2,7 @@
 use Rattle.std.proofs.Common.{◌≡◌, ◌∙◌, sym, subst, ap, List, [], ◌∷◌, ◌++◌, ℕ}
 use Rattle.std.specs.Prelude.{Option, Some, None}
 use Rattle.wire.specs.Fulfilled.{Answering, Scene, Reply, Fulfilled, scene}
-use Rattle.peers.specs.Connections.{Incoming, Opened, Came, Gone, Passed, Room}
+use Rattle.peers.specs.Connections.{Incoming, Taking, Opened, Came, Gone, Passed, Room}
 use Rattle.peers.specs.Peers.{PeerState, peer_at}
 use Rattle.peers.specs.declared.guarded.Guarded.{Guarded}
 use Rattle.peers.specs.Served.{Served, Exchange, AnswersWhereThere, TakesArrival, Rounds, served, unseen}
@@ -39,10 +39,10 @@ arrival_answers answers old (Passed moment) replies handed new (none, ticks) =
 arrival_answers {N} answers old (Room place) replies handed new (none, unhanded, e) =
     quiet answers old new handed unhanded (ap (λ (s : Served N). s.node) e) (ap (λ (s : Served N). s.text) e)
 
-pub rounds_answer : {N : Type 0} (answers : Answering N) (old : Served N) (exchanges : List Exchange) (new : Served N)
-    → Rounds answers old exchanges new → Fulfilled answers (unseen old) (all_handed exchanges) (unseen new)
-rounds_answer {N} answers old [] new e = ap (λ (s : Served N). unseen s) e
-rounds_answer answers old (exchange ∷ exchanges) new (at, (peers, takes, flushes), others) =
+pub rounds_answer : {N : Type 0} (answers : Answering N) (takes : Taking) (old : Served N) (exchanges : List Exchange) (new : Served N)
+    → Rounds answers takes old exchanges new → Fulfilled answers (unseen old) (all_handed exchanges) (unseen new)
+rounds_answer {N} answers takes old [] new e = ap (λ (s : Served N). unseen s) e
+rounds_answer answers takes old (exchange ∷ exchanges) new (at, (peers, arrives, flushes), others) =
     fulfilled_append answers (unseen old) (unseen at) (unseen new) exchange.handed (all_handed exchanges)
-    (arrival_answers answers old exchange.came exchange.replies exchange.handed (served at.node at.text peers) takes)
-    (rounds_answer answers at exchanges new others)
+    (arrival_answers answers old exchange.came exchange.replies exchange.handed (served at.node at.text peers) arrives)
+    (rounds_answer answers takes at exchanges new others)

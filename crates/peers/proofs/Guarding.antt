@@ -7,7 +7,7 @@ use Rattle.std.proofs.lemmas.List.{length-set, get_or-set_same, get_or-set_other
 use Rattle.wire.specs.Fulfilled.{Answering, Reply}
 use Rattle.peers.specs.declared.conduct.Conduct.{Conduct}
 use Rattle.peers.specs.declared.guarded.Guarded.{Guarded}
-use Rattle.peers.specs.Connections.{Incoming, Opened, Came, Gone, Passed, Room}
+use Rattle.peers.specs.Connections.{Incoming, Taking, Opened, Came, Gone, Passed, Room}
 use Rattle.peers.specs.Guard.{GuardState}
 use Rattle.peers.specs.Peers.{PeerState, at_first, peer_at}
 use Rattle.peers.specs.Served.{Served, Exchange, AnswersWhereThere, TakesArrival, Rounds, asker, served}
@@ -90,25 +90,25 @@ guards_step answers old (Passed moment) replies handed new place peer was (none,
 guards_step {N} answers old (Room from) replies handed new place peer was (none, unhanded, e) =
     inr (peer, ap (λ (s : Served N). peer_at s.peers place) e ∙ was, refl)
 
-pub guards_all : {N : Type 0} (answers : Answering N) (old : Served N) (exchanges : List Exchange) (new : Served N) (place : ℕ)
-    (before after : PeerState) → Rounds answers old exchanges new → peer_at old.peers place ≡ Some before → peer_at new.peers place ≡ Some after
+pub guards_all : {N : Type 0} (answers : Answering N) (takes : Taking) (old : Served N) (exchanges : List Exchange) (new : Served N) (place : ℕ)
+    (before after : PeerState) → Rounds answers takes old exchanges new → peer_at old.peers place ≡ Some before → peer_at new.peers place ≡ Some after
     → GuardsAll old.node.conduct.takes_holdouts place old.node.moment before.guard exchanges after.guard
-guards_all {N} answers old [] new place before after e was now =
+guards_all {N} answers takes old [] new place before after e was now =
     let same : Some before ≡ Some after = sym was ∙ ap (λ (s : Served N). peer_at s.peers place) (sym e) ∙ now in
     let peer : before ≡ after = cc in
     ap (λ (p : PeerState). p.guard) (sym peer)
-guards_all {N} answers old (exchange ∷ exchanges) new place before after (at, (peers, takes, flushes), others) was now =
+guards_all {N} answers takes old (exchange ∷ exchanges) new place before after (at, (peers, arrives, flushes), others) was now =
     let takes_all = λ (b : Bool) (moment : ℕ) (guard : GuardState). GuardsAll b place moment guard exchanges after.guard in
-    elim (guards_step answers old exchange.came exchange.replies exchange.handed (served at.node at.text peers) place before was takes) as
+    elim (guards_step answers old exchange.came exchange.replies exchange.handed (served at.node at.text peers) place before was arrives) as
     (λ _. GuardsAll old.node.conduct.takes_holdouts place old.node.moment before.guard (exchange ∷ exchanges) after.guard) [
       | inl gone ↦
-          let left = rounds_gone answers at exchanges new place others (flushed_gone (asker exchange.came) peers at.peers place flushes gone) in
+          let left = rounds_gone answers takes at exchanges new place others (flushed_gone takes (asker exchange.came) peers at.peers place flushes gone) in
           absurd (let e : None ≡ Some after = sym left.1 ∙ now in cc)
       | inr there ↦
-          let kept = flushed_there (asker exchange.came) peers at.peers place there.0 flushes there.1 in
-          let moment = arrival_moment answers old exchange.came exchange.replies exchange.handed (served at.node at.text peers) takes in
-          let conduct = arrival_conduct answers old exchange.came exchange.replies exchange.handed (served at.node at.text peers) takes in
-          let more = guards_all answers at exchanges new place kept.0 after others kept.1 now in (
+          let kept = flushed_there takes (asker exchange.came) peers at.peers place there.0 flushes there.1 in
+          let moment = arrival_moment answers old exchange.came exchange.replies exchange.handed (served at.node at.text peers) arrives in
+          let conduct = arrival_conduct answers old exchange.came exchange.replies exchange.handed (served at.node at.text peers) arrives in
+          let more = guards_all answers takes at exchanges new place kept.0 after others kept.1 now in (
             there.0.guard,
             there.2,
             subst (λ (b : Bool). takes_all b (moment_after exchange.came old.node.moment) there.0.guard) (ap (λ (c : Conduct). c.takes_holdouts) conduct)

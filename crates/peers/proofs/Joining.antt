@@ -10,7 +10,7 @@ use Rattle.wire.specs.Turned.{event_of, events_of}
 use Rattle.wire.specs.Fulfilled.{Answering, Reply}
 use Rattle.wire.proofs.Cutting.{joins}
 use Rattle.text.specs.Lines.{BoundedLine}
-use Rattle.peers.specs.Connections.{Incoming, Opened, Came, Gone, Passed, Room}
+use Rattle.peers.specs.Connections.{Incoming, Taking, Opened, Came, Gone, Passed, Room}
 use Rattle.peers.specs.Peers.{PeerState, at_first, peer_at, drained, drained_at}
 use Rattle.peers.specs.Served.{Served, Exchange, AnswersPiece, AnswersWhereThere, TakesArrival, Flushes, Rounds, asker, served}
 use Rattle.peers.specs.Sent.{IsGone, answers_to, replies_to}
@@ -129,10 +129,10 @@ says {N} answers old (Room from) replies handed new place said peer was is (none
     )
 
 -- what is sent to peers changes nothing of what they say
-pub flushed_there : (asked : Option ℕ) (old new : List (Option PeerState)) (place : ℕ) (peer : PeerState) → Flushes asked old new
+pub flushed_there : (takes : Taking) (asked : Option ℕ) (old new : List (Option PeerState)) (place : ℕ) (peer : PeerState) → Flushes takes asked old new
     → peer_at old place ≡ Some peer → (next : PeerState) × (peer_at new place ≡ Some next) × (next.lines ≡ peer.lines) × (next.guard ≡ peer.guard)
-flushed_there None old new place peer e was = (peer, ap (λ (ps : List (Option PeerState)). peer_at ps place) e ∙ was, refl, refl)
-flushed_there (Some to) old new place peer (count, e) was =
+flushed_there takes None old new place peer e was = (peer, ap (λ (ps : List (Option PeerState)). peer_at ps place) e ∙ was, refl, refl)
+flushed_there takes (Some to) old new place peer (count, taken, e) was =
     elim (cases_eq to place) as (λ _. (next : PeerState) × (peer_at new place ≡ Some next) × (next.lines ≡ peer.lines) × (next.guard ≡ peer.guard)) [
       | inl here ↦ (
         drained count peer,
@@ -150,9 +150,9 @@ flushed_there (Some to) old new place peer (count, e) was =
       )
     ]
 
-pub flushed_gone : (asked : Option ℕ) (old new : List (Option PeerState)) (place : ℕ) → Flushes asked old new → IsGone old place → IsGone new place
-flushed_gone None old new place e gone = subst (λ (ps : List (Option PeerState)). IsGone ps place) (sym e) gone
-flushed_gone (Some to) old new place (count, e) gone =
+pub flushed_gone : (takes : Taking) (asked : Option ℕ) (old new : List (Option PeerState)) (place : ℕ) → Flushes takes asked old new → IsGone old place → IsGone new place
+flushed_gone takes None old new place e gone = subst (λ (ps : List (Option PeerState)). IsGone ps place) (sym e) gone
+flushed_gone takes (Some to) old new place (count, taken, e) gone =
     let next = drained_at count (peer_at old to) in
     elim (cases_eq to place) as (λ _. IsGone new place) [
       | inl here ↦
@@ -169,13 +169,13 @@ becomes_gone : (old new : List (Option PeerState)) (place : ℕ) (frames : List 
 becomes_gone old new place frames (Adds adds still) gone = still gone
 becomes_gone old new place frames (Leaves none left) gone = left
 
-pub rounds_gone : {N : Type 0} (answers : Answering N) (old : Served N) (exchanges : List Exchange) (new : Served N) (place : ℕ)
-    → Rounds answers old exchanges new → IsGone old.peers place → IsGone new.peers place
-rounds_gone {N} answers old [] new place e gone = subst (λ (s : Served N). IsGone s.peers place) (sym e) gone
-rounds_gone answers old (exchange ∷ exchanges) new place (at, (peers, takes, flushes), others) gone =
+pub rounds_gone : {N : Type 0} (answers : Answering N) (takes : Taking) (old : Served N) (exchanges : List Exchange) (new : Served N) (place : ℕ)
+    → Rounds answers takes old exchanges new → IsGone old.peers place → IsGone new.peers place
+rounds_gone {N} answers takes old [] new place e gone = subst (λ (s : Served N). IsGone s.peers place) (sym e) gone
+rounds_gone answers takes old (exchange ∷ exchanges) new place (at, (peers, arrives, flushes), others) gone =
     let taken = becomes_gone old.peers peers place _
-    (becomes answers old exchange.came exchange.replies exchange.handed (served at.node at.text peers) place takes) gone in
-    rounds_gone answers at exchanges new place others (flushed_gone (asker exchange.came) peers at.peers place flushes taken)
+    (becomes answers old exchange.came exchange.replies exchange.handed (served at.node at.text peers) place arrives) gone in
+    rounds_gone answers takes at exchanges new place others (flushed_gone takes (asker exchange.came) peers at.peers place flushes taken)
 
 goes_on_more : (place : ℕ) (said : List ℕ) (exchange : Exchange) (exchanges : List Exchange) (at new : PeerState)
     → Says place said exchange.came exchange.replies at → SaysMore place (said ++ bytes_from place exchange.came) exchanges new
@@ -193,10 +193,10 @@ goes_on_more place said exchange exchanges at new one others =
       says = others.says ∙ ap (λ (b : List ℕ). record { waiting = []; rest = rest_from (Some []) b }) joined;
     }
 
-pub goes_on : {N : Type 0} (answers : Answering N) (old : Served N) (exchanges : List Exchange) (new : Served N) (place : ℕ) (said : List ℕ)
-    (before after : PeerState) → Rounds answers old exchanges new → peer_at old.peers place ≡ Some before → HasSaid said before
+pub goes_on : {N : Type 0} (answers : Answering N) (takes : Taking) (old : Served N) (exchanges : List Exchange) (new : Served N) (place : ℕ) (said : List ℕ)
+    (before after : PeerState) → Rounds answers takes old exchanges new → peer_at old.peers place ≡ Some before → HasSaid said before
     → peer_at new.peers place ≡ Some after → SaysMore place said exchanges after
-goes_on {N} answers old [] new place said before after e was is now =
+goes_on {N} answers takes old [] new place said before after e was is now =
     let same : Some before ≡ Some after = sym was ∙ ap (λ (s : Served N). peer_at s.peers place) (sym e) ∙ now in
     let peer : before ≡ after = cc in
     let end : said ≡ said ++ [] = sym (append-nil said) in
@@ -204,16 +204,16 @@ goes_on {N} answers old [] new place said before after e was is now =
       lines = append-nil (events_of (lines_from (Some []) said)) ∙ ap (λ (b : List ℕ). events_of (lines_from (Some []) b)) end;
       says = subst (λ p. HasSaid (said ++ []) p) peer (is ∙ ap (λ (b : List ℕ). record { waiting = []; rest = rest_from (Some []) b }) end);
     }
-goes_on answers old (exchange ∷ exchanges) new place said before after (at, (peers, takes, flushes), others) was is now =
-    elim (says answers old exchange.came exchange.replies exchange.handed (served at.node at.text peers) place said before was is takes) as
+goes_on answers takes old (exchange ∷ exchanges) new place said before after (at, (peers, arrives, flushes), others) was is now =
+    elim (says answers old exchange.came exchange.replies exchange.handed (served at.node at.text peers) place said before was is arrives) as
     (λ _. SaysMore place said (exchange ∷ exchanges) after) [
       | inl gone ↦
-          let left = rounds_gone answers at exchanges new place others (flushed_gone (asker exchange.came) peers at.peers place flushes gone) in
+          let left = rounds_gone answers takes at exchanges new place others (flushed_gone takes (asker exchange.came) peers at.peers place flushes gone) in
           absurd (let e : None ≡ Some after = sym left.1 ∙ now in cc)
       | inr there ↦
-          let kept = flushed_there (asker exchange.came) peers at.peers place there.0 flushes there.1 in
+          let kept = flushed_there takes (asker exchange.came) peers at.peers place there.0 flushes there.1 in
           goes_on_more place said exchange exchanges there.0 after there.2
-          (goes_on answers at exchanges new place (said ++ bytes_from place exchange.came) kept.0 after others kept.1 (kept.2 ∙ there.2.says) now)
+          (goes_on answers takes at exchanges new place (said ++ bytes_from place exchange.came) kept.0 after others kept.1 (kept.2 ∙ there.2.says) now)
     ]
 
 pub said_nothing : HasSaid [] at_first

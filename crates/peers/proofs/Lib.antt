@@ -1,5 +1,6 @@
 pub mod HeardLines
 pub mod Arrivals
+pub mod Following
 pub mod Sending
 pub mod Joining
 pub mod Answering

@@ -8,18 +8,18 @@ use Rattle.std.proofs.lemmas.List.{take-append-drop, length-set, get_or-set_same
 use Rattle.std.proofs.lemmas.List.Concat.{flat_map-append}
 use Rattle.wire.specs.Device.{grown}
 use Rattle.wire.specs.Fulfilled.{Answering, Reply}
-use Rattle.peers.specs.Connections.{Incoming, Opened, Came, Gone, Passed, Room}
+use Rattle.peers.specs.Connections.{Incoming, Taking, Opened, Came, Gone, Passed, Room}
 use Rattle.peers.specs.Peers.{PeerState, at_first, peer_at, due_at, drained_at}
 use Rattle.peers.specs.Served.{Served, Exchange, AnswersWhereThere, TakesArrival, asker, served}
 use Rattle.peers.specs.Sent.{Sends, IsSent, IsGone, answers_to, replies_to, answer_frames}
 use Rattle.peers.specs.inside.{SendsTo, ServesOne}
 
 -- bytes after bytes
-grown_twice : (sent : Option (List ℕ)) (xs ys : List ℕ) → grown (grown sent xs) ys ≡ grown sent (xs ++ ys)
+pub grown_twice : (sent : Option (List ℕ)) (xs ys : List ℕ) → grown (grown sent xs) ys ≡ grown sent (xs ++ ys)
 grown_twice (Some sent) xs ys = ap Some (append_assoc sent xs ys)
 grown_twice None xs ys = refl
 
-grown_none : (sent : Option (List ℕ)) → grown sent [] ≡ sent
+pub grown_none : (sent : Option (List ℕ)) → grown sent [] ≡ sent
 grown_none (Some sent) = ap Some (append-nil sent)
 grown_none None = refl
 
@@ -155,9 +155,9 @@ gone_sent peers place count gone =
     )
 
 -- the first part of what is left is sent
-sent_there : (place : ℕ) (exchanges : List Exchange) (old at new : List (Option PeerState)) (sent sent' sent'' : Option (List ℕ))
-    → IsSent place exchanges old at sent sent' → Sends place at new sent' sent'' → IsSent place exchanges old new sent sent''
-sent_there place exchanges old at new sent sent' sent'' before (count, e, took) = by_left before.waits
+sent_there : (takes : Taking) (place : ℕ) (exchanges : List Exchange) (old at new : List (Option PeerState)) (sent sent' sent'' : Option (List ℕ))
+    → IsSent place exchanges old at sent sent' → Sends takes place at new sent' sent'' → IsSent place exchanges old new sent sent''
+sent_there takes place exchanges old at new sent sent' sent'' before (count, taken, e, took) = by_left before.waits
   where
     by_left : (before.left ≡ due_at (peer_at at place)) ⊎ IsGone at place → IsSent place exchanges old new sent sent''
     by_left (inl is) = record {
@@ -194,21 +194,21 @@ sent_elsewhere place exchanges old at new sent sent' sent'' before same len is =
     still (inl e) = inl (e ∙ sym (ap due_at is))
     still (inr gone) = inr (subst (λ n. place < n) (sym len) gone.0, is ∙ gone.1)
 
-sent_to : (asked : Option ℕ) (place : ℕ) (exchanges : List Exchange) (old at new : List (Option PeerState)) (sent sent' sent'' : ℕ → Option (List ℕ))
-    → IsSent place exchanges old at (sent place) (sent' place) → SendsTo asked at new sent' sent'' → IsSent place exchanges old new (sent place) (sent'' place)
-sent_to None place exchanges old at new sent sent' sent'' before (e, same) =
+sent_to : (takes : Taking) (asked : Option ℕ) (place : ℕ) (exchanges : List Exchange) (old at new : List (Option PeerState)) (sent sent' sent'' : ℕ → Option (List ℕ))
+    → IsSent place exchanges old at (sent place) (sent' place) → SendsTo takes asked at new sent' sent'' → IsSent place exchanges old new (sent place) (sent'' place)
+sent_to takes None place exchanges old at new sent sent' sent'' before (e, same) =
     sent_elsewhere place exchanges old at new (sent place) (sent' place) (sent'' place) before (same place) (ap length e)
     (ap (λ (ps : List (Option PeerState)). peer_at ps place) e)
-sent_to (Some to) place exchanges old at new sent sent' sent'' before (sends, others) =
+sent_to takes (Some to) place exchanges old at new sent sent' sent'' before (sends, others) =
     elim (cases_eq to place) as (λ _. IsSent place exchanges old new (sent place) (sent'' place)) [
       | inl e ↦
-          sent_there place exchanges old at new (sent place) (sent' place) (sent'' place) before
-          (subst (λ p. Sends p at new (sent' p) (sent'' p)) e sends)
+          sent_there takes place exchanges old at new (sent place) (sent' place) (sent'' place) before
+          (subst (λ p. Sends takes p at new (sent' p) (sent'' p)) e sends)
       | inr other ↦
           let next = drained_at sends.0 (peer_at at to) in
           sent_elsewhere place exchanges old at new (sent place) (sent' place) (sent'' place) before (others place (λ e. other (sym e)))
-          (ap length sends.1 ∙ length-set at to next)
-          (ap (λ (ps : List (Option PeerState)). peer_at ps place) sends.1 ∙ get_or-set_other at to place next None (λ e. other (sym e)))
+          (ap length sends.2 ∙ length-set at to next)
+          (ap (λ (ps : List (Option PeerState)). peer_at ps place) sends.2 ∙ get_or-set_other at to place next None (λ e. other (sym e)))
     ]
 
 -- nothing has come
@@ -222,12 +222,12 @@ sent_none place peers sent = record {
 }
 
 -- one more exchange
-pub sent_more : {N : Type 0} (answers : Answering N) (place : ℕ) (exchanges : List Exchange) (next : Exchange) (old : List (Option PeerState))
+pub sent_more : {N : Type 0} (answers : Answering N) (takes : Taking) (place : ℕ) (exchanges : List Exchange) (next : Exchange) (old : List (Option PeerState))
     (at new : Served N) (sent sent' sent'' : ℕ → Option (List ℕ))
-    → IsSent place exchanges old at.peers (sent place) (sent' place) → ServesOne answers at next new sent' sent''
+    → IsSent place exchanges old at.peers (sent place) (sent' place) → ServesOne answers takes at next new sent' sent''
     → IsSent place (exchanges ++ (next ∷ [])) old new.peers (sent place) (sent'' place)
-sent_more answers place exchanges next old at new sent sent' sent'' before one =
-    sent_to (asker next.came) place (exchanges ++ (next ∷ [])) old one.peers new.peers sent sent' sent''
+sent_more answers takes place exchanges next old at new sent sent' sent'' before one =
+    sent_to takes (asker next.came) place (exchanges ++ (next ∷ [])) old one.peers new.peers sent sent' sent''
     (taken_more place exchanges next old at.peers one.peers (sent place) (sent' place) before
-    (becomes answers at next.came next.replies next.handed (served new.node new.text one.peers) place one.takes))
+    (becomes answers at next.came next.replies next.handed (served new.node new.text one.peers) place one.arrives))
     one.sends

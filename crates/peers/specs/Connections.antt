@@ -23,6 +23,14 @@ incoming (ArrivalGone place) buf = Gone place
 incoming (ArrivalPassed moment) buf = Passed moment
 incoming (ArrivalRoom place) buf = Room place
 
+-- how many of these bytes the peer at a place takes at once, as far as that is known
+abbrev pub Taking : Type 1
+Taking = ℕ → List ℕ → ℕ → Type 0
+
+-- what is taken now would have been taken before
+abbrev pub TakesAsBefore : Taking → Taking → Type 0
+TakesAsBefore old new = (place : ℕ) (bytes : List ℕ) (count : ℕ) → new place bytes count → old place bytes count
+
 -- what came stands within a buffer of so many bytes
 abbrev pub FitsIn : ℕ → Arrival → Type 0
 FitsIn size (ArrivalCame place count) = count ≤ size

@@ -135,12 +135,13 @@ is_spent_by None records asker = is_idle_at records asker
 abbrev pub is_spent : ℕ → AskerState → Bool
 is_spent records asker = is_spent_by asker.returning records asker
 
--- an `ASK` of another id waits as the first such one does, and takes its place: who brings nothing by one id doesn't get
--- more by others. Where there is none it is handed over, if one more may have a lease
+-- an `ASK` is handed over, if one more may have a lease
 abbrev pub other_passage : ℕ → Option ℕ → Passage
 other_passage id (Some place) = Ask id place 1
 other_passage id None = Later
 
+-- an `ASK` of another id waits as the first such one does, and takes its place: who brings nothing by one id doesn't get
+-- more by others. Where there is none it is handed over, if one more may have a lease
 abbrev pub new_passage : ℕ → GuardState → ℕ → Option ℕ → Passage
 new_passage moment guard id (Some place) = idle_passage moment id place (asker_at guard place)
 new_passage moment guard id None = other_passage id (free_place moment guard)

@@ -3,11 +3,16 @@ use Rattle.std.specs.Prelude.{◌≡◌, List, ℕ, Ok, Err}
 use Rattle.wire.specs.declared.node.Out.{Out}
 use Rattle.wire.specs.Happening.{Happening, Came, Ticked, Worked}
 use Rattle.wire.specs.Fulfilled.{Answering}
+use Rattle.peers.specs.declared.conduct.Conduct.{Conduct}
 use Rattle.peers.specs.declared.guarded.Guarded.{Guarded}
 use Rattle.peers.specs.declared.passage.Passage.{Passage}
-use Rattle.peers.specs.Guard.{GuardState, TellsPeer, handed_line, passage}
+use Rattle.peers.specs.Guard.{GuardState, TellsPeer, fresh, handed_line, passage}
 
 module _ {N : Type 0} where
+  -- a node that hears nobody yet
+  abbrev pub unheard : Conduct → N → Guarded N
+  unheard conduct node = record { node = node; guard = fresh; moment = 0; conduct = conduct }
+
   -- what becomes of a line
   abbrev pub passage_at : Guarded N → List ℕ → Passage
   passage_at at line = passage at.conduct.takes_holdouts at.moment at.guard line

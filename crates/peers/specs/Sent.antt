@@ -4,14 +4,16 @@ use Rattle.std.specs.List.{flat_map}
 use Rattle.wire.specs.declared.turned.TurnFault.{TurnFault}
 use Rattle.wire.specs.Device.{grown}
 use Rattle.wire.specs.Fulfilled.{Answering, Reply}
-use Rattle.peers.specs.Connections.{Incoming, Opened, Came, Gone, Passed, Room, noted}
+use Rattle.peers.specs.Connections.{Incoming, Taking, Opened, Came, Gone, Passed, Room, noted}
 use Rattle.peers.specs.Peers.{PeerState, peer_at, due_at, drained_at}
 use Rattle.peers.specs.Served.{Served, Exchange, Rounds, Fails, all_came, noted_if}
 
--- the first of what waits for the peer at a place was sent to it, and waits no more
-abbrev pub Sends : ℕ → List (Option PeerState) → List (Option PeerState) → Option (List ℕ) → Option (List ℕ) → Type 0
-Sends place old new sent sent' =
-    (count : ℕ) × (new ≡ set old place (drained_at count (peer_at old place)))
+-- as much of what waits for the peer at a place as it takes was sent to it, from the front, and waits no more
+abbrev pub Sends : Taking → ℕ → List (Option PeerState) → List (Option PeerState) → Option (List ℕ) → Option (List ℕ)
+    → Type 0
+Sends takes place old new sent sent' =
+    (count : ℕ) × takes place (due_at (peer_at old place)) count
+    × (new ≡ set old place (drained_at count (peer_at old place)))
     × (sent' ≡ grown sent (take count (due_at (peer_at old place))))
 
 -- the answers to what came from the peer at a place
@@ -43,18 +45,19 @@ pub record IsSent (place : ℕ) (exchanges : List Exchange) (old new : List (Opt
   pub sent : after ≡ grown before done
   pub waits : (left ≡ due_at (peer_at new place)) ⊎ IsGone new place
 
--- what came was served, one after another, and its answers sent to those that asked
-pub record Serves {N : Type 0} (answers : Answering N) (old : Served N) (exchanges : List Exchange) (new : Served N)
-    (before after : ℕ → Option (List ℕ)) : Type 0 where
-  pub rounds : Rounds answers old exchanges new
+-- what came was served, one after another, and those that asked were sent as much of its answers as they take
+pub record Serves {N : Type 0} (answers : Answering N) (takes : Taking) (old : Served N) (exchanges : List Exchange)
+    (new : Served N) (before after : ℕ → Option (List ℕ)) : Type 0 where
+  pub rounds : Rounds answers takes old exchanges new
   pub sent : (place : ℕ) → IsSent place exchanges old.peers new.peers (before place) (after place)
 
 -- what came was served as far as what brought a fault; of the answers to that nothing was sent
-pub record BreaksOff {N : Type 0} (answers : Answering N) (is_stopped : N → Type 0) (old : Served N) (fault : TurnFault)
-    (new : Served N) (sent sent' : ℕ → Option (List ℕ)) (arrived arrived' : Option (List Incoming)) : Type 0 where
+pub record BreaksOff {N : Type 0} (answers : Answering N) (is_stopped : N → Type 0) (takes : Taking) (old : Served N)
+    (fault : TurnFault) (new : Served N) (sent sent' : ℕ → Option (List ℕ))
+    (arrived arrived' : Option (List Incoming)) : Type 0 where
   pub exchanges : List Exchange
   pub at : Served N
   pub last : Option Incoming
-  pub before : Serves answers old exchanges at sent sent'
+  pub before : Serves answers takes old exchanges at sent sent'
   pub fails : Fails answers is_stopped at last fault new
   pub came : arrived' ≡ noted_if (noted arrived (all_came exchanges)) last

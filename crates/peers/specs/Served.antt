@@ -10,10 +10,10 @@ use Rattle.wire.specs.Turned.{TakesPiece, events_of}
 use Rattle.peers.specs.declared.dismissal.Dismissal.{Dismissal}
 use Rattle.peers.specs.declared.dismissal.Dismissed.{Dismissed}
 use Rattle.peers.specs.declared.guarded.Guarded.{Guarded}
-use Rattle.peers.specs.Connections.{Incoming, Opened, Came, Gone, Passed, Room, noted}
+use Rattle.peers.specs.Connections.{Incoming, Taking, Opened, Came, Gone, Passed, Room, noted}
 use Rattle.peers.specs.Guard.{Guards, returned}
 use Rattle.peers.specs.Guarded.{StoppedWithin, Through, behind}
-use Rattle.peers.specs.Peers.{PeerState, at_first, dismissal_at, peer_at, failures_at, drained_at, KeepsOthers}
+use Rattle.peers.specs.Peers.{PeerState, at_first, dismissal_at, due_at, peer_at, failures_at, drained_at, KeepsOthers}
 
 -- a node behind the guards of its peers, the text of its ledger, and the peers
 pub record Served (N : Type 0) : Type 0 where
@@ -133,23 +133,25 @@ asker (Gone place) = None
 asker (Passed moment) = None
 asker (Room place) = Some place
 
--- some of what waits for a peer is sent to it
-abbrev pub Flushes : Option ℕ → List (Option PeerState) → List (Option PeerState) → Type 0
-Flushes None old new = new ≡ old
-Flushes (Some place) old new = (count : ℕ) × (new ≡ set old place (drained_at count (peer_at old place)))
+-- a peer is sent as much of what waits for it as it takes
+abbrev pub Flushes : Taking → Option ℕ → List (Option PeerState) → List (Option PeerState) → Type 0
+Flushes takes None old new = new ≡ old
+Flushes takes (Some place) old new =
+    (count : ℕ) × takes place (due_at (peer_at old place)) count
+    × (new ≡ set old place (drained_at count (peer_at old place)))
 
--- what comes is taken, and then the peer that asked is sent some of what waits for it
-abbrev pub Round : {N : Type 0} → Answering N → Served N → Exchange → Served N → Type 0
-Round answers old exchange new =
+-- what comes is taken, and then the peer that asked is sent as much of what waits for it as it takes
+abbrev pub Round : {N : Type 0} → Answering N → Taking → Served N → Exchange → Served N → Type 0
+Round answers takes old exchange new =
     (peers : List (Option PeerState))
     × TakesArrival answers old exchange.came exchange.replies exchange.handed (served new.node new.text peers)
-    × Flushes (asker exchange.came) peers new.peers
+    × Flushes takes (asker exchange.came) peers new.peers
 
 -- all that comes is served so, in its order
-abbrev pub Rounds : {N : Type 0} → Answering N → Served N → List Exchange → Served N → Type 0
-Rounds answers old [] new = new ≡ old
-Rounds {N} answers old (exchange ∷ exchanges) new =
-    (at : Served N) × Round answers old exchange at × Rounds answers at exchanges new
+abbrev pub Rounds : {N : Type 0} → Answering N → Taking → Served N → List Exchange → Served N → Type 0
+Rounds answers takes old [] new = new ≡ old
+Rounds {N} answers takes old (exchange ∷ exchanges) new =
+    (at : Served N) × Round answers takes old exchange at × Rounds answers takes at exchanges new
 
 -- what came in them
 abbrev pub all_came : List Exchange → List Incoming

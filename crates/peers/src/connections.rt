@@ -12,7 +12,7 @@ use wire::Fault;
 pub trait Connections {
     ghost use Rattle.std.specs.Prelude.{◌≡◌, ◌≢◌, ◌≤◌, ◌∷◌, ℕ, List, [], Option, Some, IfOk, OnErr, length, take};
     ghost use Rattle.wire.specs.Device.{grown};
-    ghost use Rattle.peers.specs.Connections.{Incoming, FitsIn, incoming, noted};
+    ghost use Rattle.peers.specs.Connections.{Incoming, FitsIn, TakesAsBefore, incoming, noted};
     ghost use Rattle.peers.specs.declared.dismissal.Dismissed.{Dismissed};
 
     /// What has come so far, in its order, where that is known.
@@ -20,6 +20,9 @@ pub trait Connections {
 
     /// What the peer at a place has been sent so far, where that is known.
     ghost sent: { Self → ℕ → Option (List ℕ) };
+
+    /// How many of these bytes the peer at a place takes at once, as far as that is known.
+    ghost takes: { Self → ℕ → List ℕ → ℕ → Type 0 };
 
     /// A count of its failures, by which one is told.
     ghost failures: { Self → ℕ };
@@ -33,6 +36,7 @@ pub trait Connections {
         ensures came { IfOk result (λ arrival. FitsIn (length buf.new) arrival
             × (arrived self.new ≡ noted (arrived self.old) (incoming arrival buf.new ∷ []))) }
         ensures sent { (place : ℕ) → sent self.new place ≡ sent self.old place }
+        ensures takes { TakesAsBefore (takes self.old) (takes self.new) }
         ensures dismissed { dismissed self.new ≡ dismissed self.old }
         ensures count { IfOk result (λ arrival. failures self.new ≡ failures self.old) }
         ensures err { OnErr result ((failures self.old ≢ failures self.new)
@@ -41,9 +45,10 @@ pub trait Connections {
     /// Sends bytes to the peer at a place, from the front of these, and says how many: as many as it takes at once, and
     /// none where that peer is gone.
     fn send(&mut self, place: usize, bytes: &[u8]) -> usize
-        ensures took { (result ≤ length bytes.now)
+        ensures took { (result ≤ length bytes.now) × takes self.old place bytes.now result
             × (sent self.new place ≡ grown (sent self.old place) (take result bytes.now)) }
         ensures others { (other : ℕ) → other ≢ place → sent self.new other ≡ sent self.old other }
+        ensures takes { TakesAsBefore (takes self.old) (takes self.new) }
         ensures arrived { arrived self.new ≡ arrived self.old }
         ensures dismissed { dismissed self.new ≡ dismissed self.old }
         ensures count { failures self.new ≡ failures self.old };
@@ -52,6 +57,7 @@ pub trait Connections {
     fn dismiss(&mut self, place: usize, why: Dismissal)
         ensures dismissed { dismissed self.new ≡ Some (record { place = place; why = why }) }
         ensures sent { (other : ℕ) → sent self.new other ≡ sent self.old other }
+        ensures takes { TakesAsBefore (takes self.old) (takes self.new) }
         ensures arrived { arrived self.new ≡ arrived self.old }
         ensures count { failures self.new ≡ failures self.old };
 }

@@ -1,6 +1,6 @@
 // A node behind the guards of its peers.
 ghost use Rattle.std.specs.Prelude.{◌≡◌};
-ghost use Rattle.peers.specs.Guard.{fresh};
+ghost use Rattle.peers.specs.Guarded.{unheard};
 
 use crate::conduct::Conduct;
 use crate::guard::Guard;
@@ -22,7 +22,7 @@ pub struct Guarded<N> {
 impl<N> Guarded<N> {
     /// A node that hears nobody yet.
     pub fn new(alloc: Global, node: N, conduct: Conduct) -> Guarded<N>
-        ensures { result ≡ record { node = node; guard = fresh; moment = 0; conduct = conduct } }
+        ensures { result ≡ unheard conduct node }
     {
         Guarded {
             node,

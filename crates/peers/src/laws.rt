@@ -9,22 +9,23 @@ ghost use Rattle.peers.specs.Peers.{PeerState, at_first, peer_at};
 ghost use Rattle.peers.specs.Served.{Exchange, Rounds, Served, unseen};
 ghost use Rattle.peers.specs.Heard.{GuardsAll, SaysMore, HasSaid, all_handed};
 
+use crate::connections::Connections;
 use wire::Node;
 
 /// Whatever comes between from others, the guard of each peer takes the lines of all its bytes, in their order, as of one text.
-pub fn peers_keep_apart<N: Node>()
+pub fn peers_keep_apart<N: Node, C: Connections>()
     ensures first { HasSaid [] at_first }
-    ensures apart { (old new : Served N) (exchanges : List Exchange) (place : ℕ) (said : List ℕ)
-        (before after : PeerState) → Rounds N.answers old exchanges new
+    ensures apart { (connections : C) (old new : Served N) (exchanges : List Exchange) (place : ℕ) (said : List ℕ)
+        (before after : PeerState) → Rounds N.answers (C.takes connections) old exchanges new
         → peer_at old.peers place ≡ Some before → HasSaid said before → peer_at new.peers place ≡ Some after
         → SaysMore place said exchanges after }
 {}
 
 /// What a node is handed of each peer is what that peer's guard makes of its lines, one after another.
-pub fn guards_decide<N: Node>()
-    ensures { (old new : Served N) (exchanges : List Exchange) (place : ℕ) (before after : PeerState)
-        → Rounds N.answers old exchanges new → peer_at old.peers place ≡ Some before
-        → peer_at new.peers place ≡ Some after
+pub fn guards_decide<N: Node, C: Connections>()
+    ensures { (connections : C) (old new : Served N) (exchanges : List Exchange) (place : ℕ)
+        (before after : PeerState) → Rounds N.answers (C.takes connections) old exchanges new
+        → peer_at old.peers place ≡ Some before → peer_at new.peers place ≡ Some after
         → GuardsAll old.node.conduct.takes_holdouts place old.node.moment before.guard exchanges after.guard }
 {}
 
@@ -48,7 +49,8 @@ pub fn guards_let_through()
 {}
 
 /// A node and its ledger are as after its answers to all that it was handed, in their order, each fulfilled whole.
-pub fn answers_follow<N: Node>()
-    ensures { (old new : Served N) (exchanges : List Exchange) → Rounds N.answers old exchanges new
+pub fn answers_follow<N: Node, C: Connections>()
+    ensures { (connections : C) (old new : Served N) (exchanges : List Exchange)
+        → Rounds N.answers (C.takes connections) old exchanges new
         → Fulfilled N.answers (unseen old) (all_handed exchanges) (unseen new) }
 {}

@@ -148,11 +148,13 @@ fn arrival_of(next: &Scripted, buf: &mut [u8]) -> Option<Arrival>
 
 impl Connections for MemConnections {
     ghost use Rattle.std.specs.Prelude.{Some, take};
-    ghost use Rattle.peers.specs.Memory.{sent_at};
+    ghost use Rattle.peers.specs.Memory.{TakesAtMost, sent_at};
 
     ghost arrived = { λ m. Some (take m.come m.script) };
 
     ghost sent = { λ m place. Some (sent_at m place) };
+
+    ghost takes = { TakesAtMost };
 
     ghost failures = { λ m. m.failures };
 

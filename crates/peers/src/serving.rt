@@ -5,7 +5,7 @@ ghost use Rattle.wire.specs.Happening.{Ticked};
 ghost use Rattle.wire.specs.Turned.{EndsInStep, devices};
 ghost use Rattle.wire.specs.declared.node.Out.{Out as Answer};
 ghost use Rattle.wire.specs.declared.turned.TurnFault.TheVariants.{LinkFault as Unlinked};
-ghost use Rattle.peers.specs.Connections.{Incoming, noted};
+ghost use Rattle.peers.specs.Connections.{Incoming, TakesAsBefore, noted};
 ghost use Rattle.peers.specs.Served.{CountsFailure, Exchange, Fails, TakesArrival, all_came, asker, let_go, let_go_by, noted_if, served};
 ghost use Rattle.peers.specs.inside.{SendsTo, ServesOne};
 ghost use Rattle.peers.specs.Sent.{BreaksOff, Sends, Serves};
@@ -42,6 +42,7 @@ pub fn take_arrival<C: Connections, N: Node, W: LedgerOut>(
         (served node.new (W.text ledger.new) peers.new)) }
     ensures kept { OnErr result (C.dismissed connections.new ≡ C.dismissed connections.old) }
     ensures sent { (place : ℕ) → C.sent connections.new place ≡ C.sent connections.old place }
+    ensures takes { TakesAsBefore (C.takes connections.old) (C.takes connections.new) }
     ensures step { result ≢ Err TurnFault.LedgerFault → IfSome (W.text ledger.old) (N.in_step node.old.node)
         → IfSome (W.text ledger.new) (N.in_step node.new.node) }
     ensures ledger { result ≡ Err TurnFault.LedgerFault → W.failures ledger.old ≢ W.failures ledger.new }
@@ -83,6 +84,7 @@ fn let_go<C: Connections>(
 )
     ensures dismissed { C.dismissed connections.new ≡ let_go place was now (C.dismissed connections.old) }
     ensures sent { (other : ℕ) → C.sent connections.new other ≡ C.sent connections.old other }
+    ensures takes { TakesAsBefore (C.takes connections.old) (C.takes connections.new) }
     ensures arrived { C.arrived connections.new ≡ C.arrived connections.old }
     ensures count { C.failures connections.new ≡ C.failures connections.old }
 {
@@ -115,8 +117,10 @@ fn tick<N: Node, W: LedgerOut>(
 
 /// Sends a peer as much of what waits for it as it takes now; that waits no more.
 pub fn flush<C: Connections>(connections: &mut C, peers: &mut Peers, place: usize)
-    ensures sent { Sends place peers.old peers.new (C.sent connections.old place) (C.sent connections.new place) }
+    ensures sent { Sends (C.takes connections.old) place peers.old peers.new (C.sent connections.old place)
+        (C.sent connections.new place) }
     ensures others { (other : ℕ) → other ≢ place → C.sent connections.new other ≡ C.sent connections.old other }
+    ensures takes { TakesAsBefore (C.takes connections.old) (C.takes connections.new) }
     ensures arrived { C.arrived connections.new ≡ C.arrived connections.old }
     ensures count { C.failures connections.new ≡ C.failures connections.old }
 {
@@ -139,11 +143,12 @@ pub fn serve<C: Connections, N: Node, W: LedgerOut>(
 ) -> Result<(), TurnFault>
     ensures ok { OnOk result ((exchanges : List Exchange) × (length exchanges ≡ turns)
         × (C.arrived connections.new ≡ noted (C.arrived connections.old) (all_came exchanges))
-        × Serves N.answers (served node.old (W.text ledger.old) peers.old) exchanges
+        × Serves N.answers (C.takes connections.old) (served node.old (W.text ledger.old) peers.old) exchanges
         (served node.new (W.text ledger.new) peers.new) (C.sent connections.old) (C.sent connections.new)) }
-    ensures err { IfErr result (λ fault. BreaksOff N.answers N.is_stopped
+    ensures err { IfErr result (λ fault. BreaksOff N.answers N.is_stopped (C.takes connections.old)
         (served node.old (W.text ledger.old) peers.old) fault (served node.new (W.text ledger.new) peers.new)
         (C.sent connections.old) (C.sent connections.new) (C.arrived connections.old) (C.arrived connections.new)) }
+    ensures takes { TakesAsBefore (C.takes connections.old) (C.takes connections.new) }
     ensures step { result ≢ Err TurnFault.LedgerFault → IfSome (W.text ledger.old) (N.in_step node.old.node)
         → IfSome (W.text ledger.new) (N.in_step node.new.node) }
 {
@@ -165,13 +170,14 @@ fn serve_next<C: Connections, N: Node, W: LedgerOut>(
 ) -> Result<(), TurnFault>
     ensures ok { OnOk result ((exchange : Exchange)
         × (C.arrived connections.new ≡ noted (C.arrived connections.old) (exchange.came ∷ []))
-        × ServesOne N.answers (served node.old (W.text ledger.old) peers.old) exchange
+        × ServesOne N.answers (C.takes connections.old) (served node.old (W.text ledger.old) peers.old) exchange
         (served node.new (W.text ledger.new) peers.new) (C.sent connections.old) (C.sent connections.new)) }
     ensures err { IfErr result (λ fault. (came : Option Incoming)
         × (C.arrived connections.new ≡ noted_if (C.arrived connections.old) came)
         × Fails N.answers N.is_stopped (served node.old (W.text ledger.old) peers.old) came fault
         (served node.new (W.text ledger.new) peers.new)) }
     ensures unsent { OnErr result ((place : ℕ) → C.sent connections.new place ≡ C.sent connections.old place) }
+    ensures takes { TakesAsBefore (C.takes connections.old) (C.takes connections.new) }
     ensures step { result ≢ Err TurnFault.LedgerFault → IfSome (W.text ledger.old) (N.in_step node.old.node)
         → IfSome (W.text ledger.new) (N.in_step node.new.node) }
 {
@@ -182,7 +188,9 @@ fn serve_next<C: Connections, N: Node, W: LedgerOut>(
 
 // Sends the peer that asked what it takes.
 fn answer_asker<C: Connections>(connections: &mut C, peers: &mut Peers, asker: Option<usize>)
-    ensures sent { SendsTo asker peers.old peers.new (C.sent connections.old) (C.sent connections.new) }
+    ensures sent { SendsTo (C.takes connections.old) asker peers.old peers.new (C.sent connections.old)
+        (C.sent connections.new) }
+    ensures takes { TakesAsBefore (C.takes connections.old) (C.takes connections.new) }
     ensures arrived { C.arrived connections.new ≡ C.arrived connections.old }
 {
     if let Some(place) = asker {

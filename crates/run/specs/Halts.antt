@@ -21,5 +21,6 @@ halts_meaning e = record {
   within = e.steps ≤ halt_step_limit;
   wide = λ p. ⊥;
   stands = HaltsAsClaimed e;
-  takes_memory = e.steps ≤ halt_step_limit;
+  unseen = λ p. ⊥;
+  takes_memory = λ p. e.steps ≤ halt_step_limit;
 }

@@ -76,6 +76,7 @@ impl HaltsIn {
             × (HaltsAsClaimed self.now t.now → ⊥) }
         ensures long { result ≡ Err Refused.TooLong → self.now.steps ≤ halt_step_limit → ⊥ }
         ensures narrow { result ≡ Err Refused.TooWide → ⊥ }
+        ensures seen { result ≡ Err Refused.NotSeen → ⊥ }
         ensures memory { result ≡ Err Refused.NoMemory → self.now.steps ≤ halt_step_limit }
     {
         if self.steps > MAX_HALT_STEPS {

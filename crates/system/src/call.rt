@@ -1,8 +1,9 @@
 // The connection of a worker's process with its coordinator.
 use crate::address::Address;
+use crate::failures::Failures;
 use crate::token_shown::show_token;
-use cmd_nodes::Destination;
-use std::io::{self, ErrorKind, Read, Write};
+use cmd_nodes::{CoordinatorCaller, Destination};
+use std::io::{self, ErrorKind, IsTerminal, Read, Write};
 use std::net::{Ipv4Addr, TcpStream};
 use std::os::unix::net::UnixStream;
 use std::time::Duration;
@@ -12,6 +13,46 @@ const TIMEOUT_SECONDS: u64 = 30;
 
 // How long that is while the token is shown.
 const SHORT_TIMEOUT_SECONDS: u64 = 1;
+
+/// Who calls coordinators over the system's sockets. A call that fails is remembered, and one that doesn't is said at a terminal.
+#[derive(Drop)]
+pub struct SocketCaller<'a> {
+    rt: &'a HostRuntime,
+    failures: &'a Failures,
+    calls: u64,
+}
+
+impl<'a> SocketCaller<'a> {
+    pub(crate) fn of(rt: &'a HostRuntime, failures: &'a Failures) -> SocketCaller<'a> {
+        SocketCaller {
+            rt,
+            failures,
+            calls: 0,
+        }
+    }
+}
+
+impl<'a> CoordinatorCaller for SocketCaller<'a> {
+    type Stream = CoordinatorStream;
+
+    ghost calls = { λ caller. caller.calls };
+
+    fn call(&mut self, to: Destination<'_>) -> io::Result<CoordinatorStream> {
+        self.calls = self.calls.saturating_add(1);
+        let connected = CoordinatorStream::connect(self.rt, to);
+        match &connected {
+            Ok(_) => {
+                let mut terminal = self.rt.stderr();
+                if terminal.is_terminal() {
+                    // Nothing hangs on whether it can be said.
+                    let _ = writeln!(terminal, "connected with {}", to.address);
+                }
+            }
+            Err(fault) => self.failures.remember(to.address, fault),
+        }
+        connected
+    }
+}
 
 /// A connection with a coordinator. A read for which nothing comes within 30 seconds ends with `WouldBlock`, and so does a
 /// write of which nothing is taken.

@@ -34,7 +34,7 @@ mod watch;
 mod watched_file;
 mod way;
 
-pub use call::CoordinatorStream;
+pub use call::{CoordinatorStream, SocketCaller};
 pub use failures::Failures;
 pub use meter::Work;
 pub use named_file::NamedFile;

@@ -47,6 +47,9 @@ impl<'a> Connections for PeerSockets<'a> {
 
     ghost sent = { λ sockets place. None };
 
+    // Of how much a socket takes nothing is known.
+    ghost takes = { λ sockets place bytes count. Unit {0} };
+
     ghost failures = { λ sockets. sockets.failures };
 
     ghost dismissed = { λ sockets. sockets.dismissed };

@@ -1,6 +1,6 @@
 // The files, the clock and the sockets of the system.
 use crate::address::Address;
-use crate::call::CoordinatorStream;
+use crate::call::SocketCaller;
 use crate::failures::Failures;
 use crate::named_file::NamedFile;
 use crate::named_socket::{LOOPBACK, NamedSocket};
@@ -8,7 +8,7 @@ use crate::peer_sockets::PeerSockets;
 use crate::telling::{ReadingTold, Telling};
 use crate::watch::Watch;
 use crate::watched_file::WatchedFile;
-use cmd_nodes::{Admission, Destination, Network, Sockets};
+use cmd_nodes::{Admission, Network, Sockets};
 use cmd_options::{Ended, ended_by};
 use cmd_page::sum_of;
 use files::Disk;
@@ -359,7 +359,7 @@ impl<'a> Sockets for System<'a> {
 impl<'a> Network for System<'a> {
     type Connections = PeerSockets<'a>;
 
-    type Stream = CoordinatorStream;
+    type Caller = SocketCaller<'a>;
 
     fn token_at(&self, path: &str) -> io::Result<Vec<u8>> {
         let mut file = self.noted(path, fs::open(self.rt, path))?;
@@ -385,10 +385,8 @@ impl<'a> Network for System<'a> {
         Ok(sockets)
     }
 
-    fn call(&self, to: Destination<'_>) -> io::Result<CoordinatorStream> {
-        let stream = self.noted(to.address, CoordinatorStream::connect(self.rt, to))?;
-        self.tell(format!(in self.rt.alloc(); "connected with {}", to.address));
-        Ok(stream)
+    fn caller(&self) -> SocketCaller<'a> {
+        SocketCaller::of(self.rt, self.failures)
     }
 
     fn remember_loss(&self, address: &str, why: &str) {

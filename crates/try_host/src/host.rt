@@ -1,10 +1,10 @@
 // The host of a case: its files, locks, sockets and clock.
 use crate::device::{Call, failed};
-use crate::network::{ScriptedCall, ScriptedPeers};
+use crate::network::{ScriptedCaller, ScriptedPeers, script_at};
 use crate::room::HostRoom;
 use crate::sheets::{Page, Sheet, sheet_at, synced};
 use crate::sockets::Socket;
-use cmd_nodes::{Admission, Destination, Network, Sockets};
+use cmd_nodes::{Admission, Network, Sockets};
 use cmd_options::Ended;
 use files::{Disk, DiskFile};
 use std::io::{self, ErrorKind};
@@ -238,21 +238,10 @@ impl<'a> Sockets for CaseHost<'a> {
     }
 }
 
-// What a file of the disk holds.
-fn script_at(room: &HostRoom<'_>, path: &str) -> io::Result<Vec<u8>> {
-    let Ok(disk) = room.disk.try_borrow() else {
-        return Err(failed());
-    };
-    match disk.text_at(path) {
-        Some(text) => Ok(text.to_vec(room.alloc)?),
-        None => Err(io::Error::from(ErrorKind::ConnectionRefused)),
-    }
-}
-
 impl<'a> Network for CaseHost<'a> {
     type Connections = ScriptedPeers<'a>;
 
-    type Stream = ScriptedCall<'a>;
+    type Caller = ScriptedCaller<'a>;
 
     fn token_at(&self, path: &str) -> io::Result<Vec<u8>> {
         self.room.noted(path, script_at(self.room, path))
@@ -264,21 +253,8 @@ impl<'a> Network for CaseHost<'a> {
         Ok(ScriptedPeers::of(self.room, script))
     }
 
-    // The first call finds the file ADDRESS, the next ones ADDRESS.2, ADDRESS.3 and so on.
-    fn call(&self, to: Destination<'_>) -> io::Result<ScriptedCall<'a>> {
-        let address = to.address;
-        let call = self.room.next_call();
-        let said = if call == 1 {
-            script_at(self.room, address)
-        } else {
-            let path = format!(in self.room.alloc; "{address}.{call}")?;
-            script_at(self.room, &path)
-        };
-        Ok(ScriptedCall {
-            room: self.room,
-            said: self.room.noted(address, said)?,
-            read: 0,
-        })
+    fn caller(&self) -> ScriptedCaller<'a> {
+        ScriptedCaller::of(self.room)
     }
 
     fn remember_loss(&self, address: &str, why: &str) {

@@ -29,7 +29,7 @@ pub use device::Share;
 pub use fault::CaseFault;
 pub use host::CaseHost;
 pub use mem_disk::{MemDisk, Name};
-pub use network::{ScriptedCall, ScriptedPeers};
+pub use network::{ScriptedCall, ScriptedCaller, ScriptedPeers};
 pub use reading::cases_of;
 pub use room::{Failing, HostRoom};
 pub use streams::{Input, Output};

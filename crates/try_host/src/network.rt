@@ -4,8 +4,9 @@ ghost use Rattle.peers.specs.Connections.{FitsIn};
 
 use crate::device::failed;
 use crate::room::HostRoom;
+use cmd_nodes::{CoordinatorCaller, Destination};
 use peers::{Arrival, Connections, Dismissal, Dismissed};
-use std::io::{self, Read, Write};
+use std::io::{self, ErrorKind, Read, Write};
 use wire::Fault;
 
 /// What comes from peers, as the lines of a file say it: `+` a peer comes; `0 < ASK 7` the peer at place 0 sends a line, and
@@ -85,6 +86,9 @@ impl Connections for ScriptedPeers<'_> {
 
     ghost sent = { λ peers place. None };
 
+    // A case says how much is taken at once.
+    ghost takes = { λ peers place bytes count. Unit {0} };
+
     ghost failures = { λ peers. peers.failures };
 
     ghost dismissed = { λ peers. peers.dismissed };
@@ -109,13 +113,62 @@ impl Connections for ScriptedPeers<'_> {
     }
 }
 
+// What a file of the disk holds.
+pub(crate) fn script_at(room: &HostRoom<'_>, path: &str) -> io::Result<Vec<u8>> {
+    let Ok(disk) = room.disk.try_borrow() else {
+        return Err(failed());
+    };
+    match disk.text_at(path) {
+        Some(text) => Ok(text.to_vec(room.alloc)?),
+        None => Err(io::Error::from(ErrorKind::ConnectionRefused)),
+    }
+}
+
+/// Who calls at an address: the first call finds the file ADDRESS, the next ones ADDRESS.2, ADDRESS.3 and so on.
+#[derive(Drop)]
+pub struct ScriptedCaller<'a> {
+    room: &'a HostRoom<'a>,
+    calls: u64,
+}
+
+impl<'a> ScriptedCaller<'a> {
+    pub(crate) fn of(room: &'a HostRoom<'a>) -> ScriptedCaller<'a> {
+        ScriptedCaller { room, calls: 0 }
+    }
+
+    // What the file of a call holds.
+    fn script_of(&self, address: &str) -> io::Result<Vec<u8>> {
+        if self.calls == 1 {
+            return script_at(self.room, address);
+        }
+        let path = format!(in self.room.alloc; "{address}.{}", self.calls)?;
+        script_at(self.room, &path)
+    }
+}
+
+impl<'a> CoordinatorCaller for ScriptedCaller<'a> {
+    type Stream = ScriptedCall<'a>;
+
+    ghost calls = { λ caller. caller.calls };
+
+    fn call(&mut self, to: Destination<'_>) -> io::Result<ScriptedCall<'a>> {
+        self.calls = self.calls.saturating_add(1);
+        let said = self.room.noted(to.address, self.script_of(to.address))?;
+        Ok(ScriptedCall {
+            room: self.room,
+            said,
+            read: 0,
+        })
+    }
+}
+
 /// What a coordinator says over a connection, a file of it; what it is told is written down.
 #[derive(Drop)]
 pub struct ScriptedCall<'a> {
-    pub(crate) room: &'a HostRoom<'a>,
-    pub(crate) said: Vec<u8>,
+    room: &'a HostRoom<'a>,
+    said: Vec<u8>,
     // how many bytes of it were read
-    pub(crate) read: usize,
+    read: usize,
 }
 
 impl Read for ScriptedCall<'_> {

@@ -37,8 +37,6 @@ pub struct HostRoom<'a> {
     // What was written to a socket, and not read yet.
     pub(crate) under_way: RefCell<Vec<u8>>,
     pub(crate) now: Cell<u64>,
-    // How many connections were asked for.
-    calls: Cell<u64>,
     // How many bytes of answers were flushed.
     pub(crate) flushed: Cell<usize>,
     trace: RefCell<Vec<u8>>,
@@ -73,7 +71,6 @@ impl<'a> HostRoom<'a> {
             sockets: Device::new(sockets, Share::Nothing),
             under_way: RefCell::new(Vec::new(alloc)),
             now: Cell::new(0),
-            calls: Cell::new(0),
             flushed: Cell::new(0),
             trace: RefCell::new(Vec::new(alloc)),
             reason: RefCell::new(None),
@@ -83,13 +80,6 @@ impl<'a> HostRoom<'a> {
     /// Whether files or sockets have failed.
     pub fn has_failed(&self) -> bool {
         self.files.is_over() || self.sockets.is_over()
-    }
-
-    // The number of the next connection that is asked for, from 1 on.
-    pub(crate) fn next_call(&self) -> u64 {
-        let call = self.calls.get().saturating_add(1);
-        self.calls.set(call);
-        call
     }
 
     // Writes down what was sent over the connection at a place.

@@ -189,8 +189,8 @@ pub enum Refusal {
     NoTable(TableFault),
     /// The text is no record for another reason, 302 to 305.
     NoRecord(u32),
-    /// The certificate of this kind doesn't stand (201), asks for more than its limit (202), or its check gets too large
-    /// (203).
+    /// The certificate of this kind doesn't stand (201), asks for more than its limit (202), its check gets too large (203),
+    /// or its run isn't seen to repeat (204).
     Certificate { code: u32, kind: Kind },
     /// Memory was refused.
     NoMemory,

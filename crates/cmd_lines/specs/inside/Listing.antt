@@ -32,14 +32,14 @@ size_left None = 0
 size_left (Some rest) = suc (length rest.now)
 
 -- what is found behind the tables that came: the first of each comes too, and is said
-pub record ListsFirst (came : List Packed) (found : List Found) (new : List Packed) (said : List ℕ) : Type 0 where
+pub record PrintsFirst (came : List Packed) (found : List Found) (new : List Packed) (said : List ℕ) : Type 0 where
   pub came_new : new ≡ came ++ tables_of (first_ones came found)
   pub said_new : said ≡ flat_map found_line (first_ones came found)
 
 -- and that, of what is printed of what is found
 abbrev pub ListsFor : Listing → List Packed → List Found → List Packed → List ℕ → Type 0
 ListsFor l came found new said =
-    (printed : List Found) × ArePrinted l found printed × ListsFirst came printed new said
+    (printed : List Found) × ArePrinted l found printed × PrintsFirst came printed new said
 
 -- what a line is found to have, as its record, if it is one, or by its tables
 abbrev pub found_if : Option Record → List Packed → List Found

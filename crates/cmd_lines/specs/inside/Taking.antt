@@ -4,6 +4,7 @@ use Rattle.std.specs.Io.KnownBytes.{Consumes, Appends}
 use Rattle.text.specs.Lines.{BoundedLine, HasNoNewline, bounded_line, joined}
 use Rattle.cmd_options.specs.declared.outcome.Outcome.{Outcome}
 use Rattle.cmd_lines.specs.Lines.{AreOneLineEach}
+use Rattle.cmd_lines.specs.First.{IsSaidToFirst}
 use Rattle.cmd_lines.specs.Said.{AreTakenBy, first_fault}
 use Rattle.cmd_lines.specs.Taken.{HasTakenLines, TakesMore}
 
@@ -43,4 +44,11 @@ pub record IsSaid {D : Type 0} (Takes : D → BoundedLine → Outcome → D → 
   pub is : text ≡ joined lines ++ last
   pub kept : begun ≡ bounded_line last
   pub taken : AreTakenBy Takes start lines o now said
+  pub written : Appends held new_held said
+
+-- of a reader the first lines are taken; what was said to them is written, but for what waits
+pub record SaysBut {D : Type 0} (Takes : D → BoundedLine → Outcome → D → List ℕ → Type 0) (start : D)
+    (read new_read held new_held : Option (List ℕ)) (waits : List ℕ) : Type 0 where
+  pub said : List ℕ
+  pub first : IsSaidToFirst Takes start read new_read (said ++ waits)
   pub written : Appends held new_held said

@@ -1,5 +1,5 @@
 -- For the code: what each ledger does to what has come before it, and what is told of that.
-use Rattle.std.specs.Prelude.{◌≡◌, ◌⊎◌, ℕ, ◌+◌, Bool, true, false, List, [], Option, None, Some, Ok, Err, codes}
+use Rattle.std.specs.Prelude.{◌≡◌, ◌⊎◌, ℕ, ◌+◌, Bool, true, false, List, [], ◌++◌, Option, None, Some, Ok, Err, codes}
 use Rattle.std.specs.Io.KnownBytes.{Appends}
 use Rattle.machine_text.specs.Packed.{Packed}
 use Rattle.machine_text.specs.Text.{text_of}
@@ -9,6 +9,8 @@ use Rattle.ledger.specs.Records.{same_table}
 use Rattle.ledger.specs.declared.left.Left.{Left}
 use Rattle.totals.specs.Whole.{AddGives, Collected, IsWhole}
 use Rattle.totals.specs.declared.part_fault.PartFault.TheVariants.{AddedBefore, NotOpen}
+use Rattle.cmd_options.specs.declared.ended.Ended.{Ended}
+use Rattle.cmd_options.specs.declared.ended.Ended.TheVariants.{Stream}
 use Rattle.cmd_parts.specs.Join.{is_silent, left_line, line_behind}
 use Rattle.cmd_parts.specs.Stream.{AreMissed, IsLoadedAs, IsMissed, IsRefusedAs}
 use Rattle.cmd_parts.specs.declared.joiner.Joiner.{Joiner}
@@ -87,3 +89,13 @@ pub record SaysMissed (came roots : List Packed) (is_sound : Bool) (faults new_f
   pub are_missed : AreMissed came roots lines
   pub sound : is_sound ≡ is_silent lines
   pub says : Appends faults new_faults lines
+
+-- or the first of them, where that ended early
+pub record SaysMissedFirst (came roots : List Packed) (faults : Option (List ℕ)) (e : Ended)
+    (new_faults : Option (List ℕ)) : Type 0 where
+  pub first : List Packed
+  pub later : List Packed
+  pub are_all : roots ≡ first ++ later
+  pub lines : List ℕ
+  pub are_missed : AreMissed came first lines
+  pub says : Appends faults new_faults lines ⊎ (e ≡ Stream)

@@ -3,6 +3,8 @@ use Rattle.std.specs.Prelude.{◌≡◌, ◌≢◌, ◌⊎◌, ℕ, List, [], �
 use Rattle.std.specs.Io.KnownBytes.{Appends, Consumes, IsAtEnd}
 use Rattle.text.specs.Lines.{HasNoNewline, joined}
 use Rattle.cmd_lines.specs.Lines.{AreOneLineEach}
+use Rattle.cmd_options.specs.declared.ended.Ended.{Ended}
+use Rattle.cmd_options.specs.declared.ended.Ended.TheVariants.{Stream}
 use Rattle.cmd_parts.specs.Ledgers.{AreLedgers, AreOfOne, BeginsWithLedgers, IsHead}
 
 -- ledgers are taken in their order, and what is said to each is said
@@ -76,3 +78,22 @@ pub record TakesLedgers {D : Type 0} (Takes : D → List ℕ → D → List ℕ 
   pub consumed : Consumes read new_read text
   pub whole : IsAtEnd new_read
   pub takes : TakesAll Takes old held text new new_held
+
+-- where the taking ended early: the first ledgers of a text were taken, and what is said to them is said, unless a stream
+-- failed
+pub record HasTakenLedgers {D : Type 0} (Takes : D → List ℕ → D → List ℕ → Type 0) (start : D) (held : Option (List ℕ))
+    (text : List ℕ) (e : Ended) (new_held : Option (List ℕ)) : Type 0 where
+  pub ledgers : List (List ℕ)
+  pub rest : List ℕ
+  pub begins : BeginsWithLedgers text ledgers rest
+  pub now : D
+  pub said : List ℕ
+  pub taken : LedgersAreTaken Takes start ledgers now said
+  pub written : Appends held new_held said ⊎ (e ≡ Stream)
+
+-- and that of a reader's text, of which a first part is read
+pub record TakesFirstLedgers {D : Type 0} (Takes : D → List ℕ → D → List ℕ → Type 0) (old : D)
+    (read new_read held : Option (List ℕ)) (e : Ended) (new_held : Option (List ℕ)) : Type 0 where
+  pub text : List ℕ
+  pub consumed : Consumes read new_read text
+  pub first : HasTakenLedgers Takes old held text e new_held

@@ -3,7 +3,7 @@ use Rattle.std.specs.Prelude.{◌≡◌, ℕ, List, Option, Some, None, Result, 
 use Rattle.machine_text.specs.Packed.{empty_table}
 use Rattle.ledger.specs.Contents.{IsBoard}
 use Rattle.ledger.specs.LedgerText.{LoadGives}
-use Rattle.ledger.specs.Reading.{IsRead, IsAllRead}
+use Rattle.ledger.specs.Reading.{IsRead, IsAllRead, IsBrokenOff}
 use Rattle.ledger.specs.declared.left.Left.{Left}
 use Rattle.wire.specs.declared.node.Out.{Out}
 use Rattle.leases.specs.Leases.{Leased, no_leases}
@@ -27,7 +27,7 @@ BeginsFrom n read limit new_read (Err WrongRoot) = (text : List ℕ) × IsAllRea
     × BeginsSo n text (Err WrongRoot)
 BeginsFrom n read limit new_read (Err NoMemory) = (text : List ℕ) × IsRead read limit text new_read
     × BeginsSo n text (Err NoMemory)
-BeginsFrom n read limit new_read (Err LedgerFault) = (text : List ℕ) × IsRead read limit text new_read
+BeginsFrom n read limit new_read (Err LedgerFault) = (text : List ℕ) × IsBrokenOff read limit text new_read
 
 -- the coordinator that is made of what a start gives, and its answer
 abbrev pub coordinator_of : ℕ → Result (Leased × Out) StartFault → Coordinating

@@ -4,7 +4,7 @@ use Rattle.machine_text.specs.Packed.{Packed}
 use Rattle.kind_evidence.specs.declared.verdicts.Ending.{Ending}
 use Rattle.cert.specs.Claim.{Recorded}
 use Rattle.ledger.specs.Offers.{IsKnown, IsElsewhere}
-use Rattle.cert.specs.Certified.{IsCertified, IsRefusedBy, IsShownBy}
+use Rattle.cert.specs.Certified.{IsCertified, IsUnfitBy, IsShownBy}
 use Rattle.ledger.specs.declared.faults.OfferFault.{OfferFault}
 use Rattle.ledger.specs.declared.faults.OfferFault.TheVariants.{WrongSize, NotOpen, Refused as IsRefused, NoMemory}
 use Rattle.ledger.specs.declared.stored_record.Judging.{Judging}
@@ -29,7 +29,7 @@ footing_by None None = Known
 abbrev pub IsWhyRefused : OfferFault → Recorded → Type 0
 IsWhyRefused WrongSize r = ⊥
 IsWhyRefused NotOpen r = ⊥
-IsWhyRefused (IsRefused f) r = IsRefusedBy f r
+IsWhyRefused (IsRefused f) r = IsUnfitBy f r
 IsWhyRefused NoMemory r = Unit {0}
 
 -- what is known of a record that is yet to be judged, is certified, or was judged with this outcome

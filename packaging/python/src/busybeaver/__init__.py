@@ -66,7 +66,7 @@ class Answer(NamedTuple):
     steps: Optional[int]
     #: The ones on its tape then, whether the record says them or not.
     ones: Optional[int]
-    #: The number of a refusal, 201 to 203 or 301 to 305.
+    #: The number of a refusal, 201 to 204 or 301 to 305.
     code: Optional[int]
     #: The number of the fault of the table's text, 101 to 105, where the code is 301.
     table_code: Optional[int]

@@ -11,4 +11,4 @@ pub returns-in_err-halted-in-Halts-clause-refused : goal.returns-in_err-halted-i
 returns-in_err-halted-in-Halts-clause-refused c =
     let p = err_from_is_err_and c.from_residual.result c.from_residual.ensures.1 in
     let told = c.in_err-halted-in-Halts.ensures in
-    rw (p.1, p.2) (λ memory. halts_refused c.args.r.now c.in-Halts.evidence c.in_err-halted-in-Halts.field-0.0 c.in-Halts.is (λ is. told.fails (ap Err is)) (λ is. told.long (ap Err is)) (λ is. told.narrow (ap Err is)) memory)
+    rw (p.1, p.2) (λ memory. halts_refused c.args.r.now c.in-Halts.evidence c.in_err-halted-in-Halts.field-0.0 c.in-Halts.is (λ is. told.fails (ap Err is)) (λ is. told.long (ap Err is)) (λ is. told.narrow (ap Err is)) (λ is. told.seen (ap Err is)) memory)

@@ -4,9 +4,12 @@ use Rattle.std.specs.Prelude.{codes}
 use Rattle.machine_text.specs.Packed.{Packed}
 use Rattle.ledger.specs.Contents.{IsOpenOn}
 use Rattle.ledger.specs.Tally.{AreAll}
+use Rattle.cmd_parts.specs.inside.{AreOthers}
+use Rattle.cmd_parts.specs.Join.{IsReadAt}
 use Rattle.cmd_parts.specs.Split.{path_within}
 use Rattle.cmd_parts.proofs.JoinedParts.{gathered_so}
 use Rattle.cmd_parts.proofs.JoinEnds.{none_met, warns_behind}
+use Rattle.cmd_parts.proofs.Sparing.{spared}
 use Rattle.cmd_parts.proofs.join.gather.Goals as goal
 use Rattle.cmd_parts.proofs.join.gather.Goals.{then-is_kept, else-is_kept}
 
@@ -28,6 +31,17 @@ returns-clause-ok g c =
     c.in_ok-is_kept.is_kept c.in_ok-are_sound.are_sound c.if-is_kept.result _ _ _ _ _ _ is same c.in_ok-trunk.ensures
     (subst (λ (l : List Packed). AreAll (IsOpenOn trunk) l) (sym roots) c.in_ok-roots.ensures)
     c.in_ok-is_kept.ensures.ok c.in_ok-begin.ensures.ok c.in_ok-begin.ensures.counts c.in_ok-whole.ensures.trunk c.in_ok-are_sound.ensures.ok all neither
+
+pub returns-clause-spared : goal.returns-clause-spared
+returns-clause-spared g c =
+    let Tells = g.S.PartLedgers.tells_written c.args.parts.now in
+    let Finds = g.S.PartLedgers.finds c.args.parts.now in
+    let folder = c.args.folder.now in
+    let trunk = c.in_ok-trunk.trunk in
+    let reads : IsReadAt Finds (path_within folder (codes "trunk")) trunk c.in_ok-trunk.left = search rules in
+    let other : Tells (path_within folder (codes "trunk")) false = search rules in
+    let others : AreOthers Tells folder c.in_ok-roots.roots.items = search rules in
+    spared Tells Finds folder trunk c.in_ok-trunk.left c.in_ok-roots.roots.items reads c.in_ok-roots.ensures other others
 
 pub returns-in_err-begin-clause-err : goal.returns-in_err-begin-clause-err
 returns-in_err-begin-clause-err g c =

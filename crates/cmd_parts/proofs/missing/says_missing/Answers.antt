@@ -3,6 +3,8 @@ use Rattle.std.proofs.lemmas.List.{take_more}
 use Rattle.machine_text.specs.Packed.{Packed}
 use Rattle.cmd_parts.specs.inside.Joining.{SaysMissed}
 use Rattle.cmd_parts.proofs.Telling.{one_missed}
+use Rattle.cmd_lines.proofs.Early.{IfErr-passed}
+use Rattle.cmd_parts.proofs.TellingFirst.{missed_still}
 use Rattle.cmd_parts.proofs.missing.says_missing.Goals as goal
 use Rattle.cmd_parts.proofs.missing.says_missing.Goals.{then-not-branch, else-not-branch}
 
@@ -23,4 +25,10 @@ loop-root-preserved g c =
     ] in
     subst (λ (l : List Packed). SaysMissed came l c.if-not-branch.are_all (g.E.Write.contents c.args.faults.now) (g.E.Write.contents c.looked_for.new.faults)) (sym more)
     (one_missed came (take i roots) root c.loop-root.are_all c.in_ok-looked_for.field-0 c.if-not-branch.are_all (g.E.Write.contents c.args.faults.now) (g.E.Write.contents c.loop-root.faults) (g.E.Write.contents c.looked_for.new.faults)
-    c.loop-root.invariant c.in_ok-looked_for.ensures both neither)
+    c.loop-root.invariant c.in_ok-looked_for.ensures.ok both neither)
+
+pub returns-in_err-looked_for-clause-first : goal.returns-in_err-looked_for-clause-first
+returns-in_err-looked_for-clause-first g c =
+    IfErr-passed c.from_residual.result _ _ c.from_residual.ensures.1
+    (missed_still c.args.came.now.keys c.args.roots.now c.loop-root.root-index c.loop-root.are_all (g.E.Write.contents c.args.faults.now) (g.E.Write.contents c.loop-root.faults) (g.E.Write.contents c.looked_for.new.faults) _ c.loop-root.invariant
+    c.in_err-looked_for.ensures.err)

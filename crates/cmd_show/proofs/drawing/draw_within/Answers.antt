@@ -1,6 +1,7 @@
 use Rattle.cmd_show.specs.declared.drawing.Pictures.{Pictures}
 use Rattle.cmd_show.specs.Files.{DrawsLine}
-use Rattle.cmd_show.proofs.Turns.{stream_taken}
+use Rattle.cmd_show.proofs.Turns.{early_taken, stream_taken}
+use Rattle.cmd_lines.proofs.Early.{IfErr-passed}
 use Rattle.cmd_show.proofs.drawing.draw_within.Goals as goal
 
 pub returns-clause-ok : goal.returns-clause-ok
@@ -9,3 +10,7 @@ returns-clause-ok g c = (
   stream_taken {D = Pictures _} (λ p. (p.folder.now, p.drawing.now)) (λ p. p.host.now) (λ kept. DrawsLine g.H.Files.tells_same g.H.Files.holds kept.0 kept.1)
       _ _ _ _ _ _ _ c.in_ok-outcome.ensures.ok,
 )
+
+pub returns-in_err-outcome-clause-first : goal.returns-in_err-outcome-clause-first
+returns-in_err-outcome-clause-first g c = IfErr-passed c.from_residual.result _ _ c.from_residual.ensures.1 (early_taken {D = Pictures _} (λ p. (p.folder.now, p.drawing.now)) (λ p. p.host.now) (λ kept. DrawsLine g.H.Files.tells_same g.H.Files.holds kept.0 kept.1)
+    _ _ _ _ _ _ c.in_err-outcome.ensures.first)

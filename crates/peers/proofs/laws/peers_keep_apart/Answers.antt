@@ -6,5 +6,5 @@ returns-clause-first g c = said_nothing
 
 pub returns-clause-apart : goal.returns-clause-apart
 returns-clause-apart g c =
-    λ old new exchanges place said before after rounds was has now.
-    goes_on g.N.Node.answers old exchanges new place said before after rounds was has now
+    λ connections old new exchanges place said before after rounds was has now.
+    goes_on g.N.Node.answers (g.C.Connections.takes connections) old exchanges new place said before after rounds was has now

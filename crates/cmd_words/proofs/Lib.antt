@@ -1,0 +1,3 @@
+mod Rules
+mod Grown
+mod Givens

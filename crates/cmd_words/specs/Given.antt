@@ -1,0 +1,53 @@
+-- What clap's matches give of an option or an argument, by its name.
+use Rattle.std.specs.Prelude.{◌≡◌, ℕ, Bool, true, false, List, [], Option, Some, None, codes, cond, option_map, unwrap_or}
+use Rattle.std.specs.Borrow.{Bor}
+use Rattle.std.specs.Str.Parse.{IsNumeral, digits_value, without_leading_plus}
+use Rattle.clap.specs.Words.{Row, first_of, found_of, one_of, rows_of}
+use Rattle.clap.specs.declared.parser.matches.ArgMatches.{ArgMatches}
+use Rattle.cmd_options.specs.declared.ledger_file.LedgerFile.{LedgerFile}
+use Rattle.cmd_options.specs.declared.ledger_file.Durability.TheVariants.{Disk, System}
+
+-- what was found for each argument and option of a command
+abbrev pub rows_found : ArgMatches → List Row
+rows_found matches = rows_of (found_of matches)
+
+-- the digits of a text, behind a plus or none, are this number
+abbrev pub IsDecimal : List ℕ → ℕ → Type 0
+IsDecimal text n =
+    IsNumeral 10 (without_leading_plus text) × (n ≡ digits_value 10 (without_leading_plus text))
+
+-- a number of states in an argument that may be a path
+abbrev pub IsStates : List Row → List ℕ → ℕ → Type 0
+IsStates rows name n = (word : List ℕ) × (first_of name rows ≡ Some word) × IsDecimal word n
+
+abbrev pub IsNumber : List Row → List ℕ → ℕ → Type 0
+IsNumber rows name n = (text : List ℕ) × (one_of name rows ≡ Some text) × IsDecimal text n
+
+-- of a number that may be left out
+abbrev pub IsNumberIf : List Row → List ℕ → Option ℕ → Type 0
+IsNumberIf rows name None = first_of name rows ≡ None
+IsNumberIf rows name (Some n) = IsNumber rows name n
+
+abbrev pub IsTextIf : List Row → List ℕ → Option (Bor (List ℕ)) → Type 0
+IsTextIf rows name given = option_map (λ text. text.now) given ≡ first_of name rows
+
+-- of a text that has to be given
+abbrev pub IsArgument : List Row → List ℕ → Bor (List ℕ) → Type 0
+IsArgument rows name given = given.now ≡ unwrap_or (first_of name rows) []
+
+pub record IsFlag (rows : List Row) (name : List ℕ) (given : Bool) : Type 0 where
+  pub none : one_of name rows ≡ None → given ≡ false
+  pub yes : one_of name rows ≡ Some (codes "true") → given ≡ true
+  pub no : one_of name rows ≡ Some (codes "false") → given ≡ false
+
+-- a ledger that is written at a path: on the disk, where that is asked for
+pub record IsWrittenAt (rows : List Row) (at : Option (List ℕ)) (file : LedgerFile) : Type 0 where
+  pub path : Some file.path.now ≡ at
+  pub sync : Bool
+  pub is_sync : IsFlag rows (codes "sync") sync
+  pub durability : file.durability ≡ cond sync Disk System
+
+-- the ledger of `--ledger`, where one is named
+abbrev pub IsLedger : List Row → Option LedgerFile → Type 0
+IsLedger rows None = first_of (codes "ledger") rows ≡ None
+IsLedger rows (Some file) = IsWrittenAt rows (first_of (codes "ledger") rows) file

@@ -2,7 +2,7 @@
 # Settles the tree of N states by a coordinator and a process of workers for each processor of this machine, and prints the
 # report:
 #   contrib/all.sh N [OPTIONS OF bb work..]
-# Where there are no options they are --hard. LEDGER names the coordinator's ledger, which a run that was stopped goes on from
+# Without options it takes --hard. LEDGER names the coordinator's ledger, which a run that was stopped goes on from
 # (none is kept if it isn't set). BB names the program (bb beside contrib/ if it isn't set), JOBS how many processes work (one for
 # each processor). The report comes on standard output, how far it is on standard error, and the exit status is that of bb coord.
 # Workers come over a socket file, which is its owner's alone, so holdouts are taken of them.

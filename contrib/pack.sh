@@ -1,6 +1,6 @@
 #!/bin/sh
 # Prints the ledgers of a tree in parts one behind the other, as bb join - reads them: the trunk, and then the parts in the
-# order of their names. The SHA-256 of what is printed is said on standard error:
+# order of their names. Standard error gets the SHA-256 of what is printed:
 #   contrib/pack.sh DIR | xz -T0 > DIR.xz
 #   xz -dc DIR.xz | bb join -
 # A part that was compressed (PART.xz) is read so; where PART stands too, that counts.

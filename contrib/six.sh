@@ -6,12 +6,12 @@
 # The tables with fewer than six filled entries are the trunk. The children of those of them that halt with five, 241,368, are the
 # roots, as `bb split 6 DIR --filled 6 --hard` has them, and their trees are disjoint. SHARE is a number of roots, or a part of
 # them as in 1/100. They are drawn by chance with the seed S (1 if it isn't set), and a larger share of the same seed has the
-# smaller one in it; or they are the roots from number K on, in the order of their names, the first is 1. Where there are no
-# options of bb walk they are --hard.
+# smaller one in it; or they are the roots from number K on, in the order of their names, the first is 1. Without options of
+# bb walk it takes --hard.
 #
-# DIR is made, or gone on with where it was stopped: a root that was walked has DIR/walked/ROOT.xz, which holds the report of its
-# walk, and then the records that were dear to find. Nothing else is kept, but for the processor's seconds and the memory of each
-# walk, where GNU time is installed.
+# DIR is made; a run that was stopped goes on from it. A root that was walked has DIR/walked/ROOT.xz, which holds the report of its
+# walk, and then the records that took long to find. Nothing else is kept, except the processor's seconds and the memory of each
+# walk, where GNU time is installed. Every ten seconds, or every EVERY seconds, standard error says how many roots are walked.
 #
 # --sum says what all walked roots come to, what that says of the whole tree, and which tables are left. --again walks so many of
 # the walked roots once more, each with the records that were kept of it, and compares the reports, byte for byte: whoever is given
@@ -157,14 +157,20 @@ else
     cut -d ' ' -f 2 "$folder/roots" | drawn "$count"
 fi > "$folder/begun/roots.$$"
 echo "$(wc -l < "$folder/begun/roots.$$") of $every roots, $jobs walks at once" >&2
-# A walk that leaves holdouts ends with 1; what ends with more stops all.
+while sleep "${EVERY:-10}" < /dev/null > /dev/null 2>&1 && kill -0 $$ 2> /dev/null; do
+    echo "$(find "$folder/walked" -name '*.xz' | wc -l) roots of $folder are walked" >&2
+done &
+teller=$!
+trap 'kill $teller 2> /dev/null || :' EXIT
+# A walk that leaves holdouts ends with 1; what ends with more is named, and stops all.
 xargs -P "$jobs" -I {} sh -c '
-    root=$1 folder=$2 time=$3; shift 3
+    root=$1 folder=$2 time=$3 status=0; shift 3
     walked=$folder/walked/$root.xz begun=$folder/begun/$root
     [ ! -e "$walked" ] || exit 0
     rm -f "$begun".*
     ${time:+/usr/bin/time -q -o "$begun.time" -f "seconds %U %S
-kilobytes %M"} "$0" walk 6 --root "$root" --save "$begun.saved" "$@" > "$begun.report" || [ $? -eq 1 ] || exit 255
+kilobytes %M"} "$0" walk 6 --root "$root" --save "$begun.saved" "$@" > "$begun.report" || status=$?
+    [ "$status" -le 1 ] || { echo "$root: status $status" >&2; exit 255; }
     [ -s "$begun.report" ] || exit 255
     for part in time report saved; do [ ! -e "$begun.$part" ] || cat "$begun.$part"; done | xz > "$begun.xz"
     mv "$begun.xz" "$walked"

@@ -1,14 +1,20 @@
 #!/bin/sh
-# Settles the tree of N states in parts, on all processors of this machine, and says how it stands:
+# Settles the tree of N states in parts, on all processors of this machine, and prints its report:
 #   contrib/tree.sh N DIR [OPTIONS OF bb settle..]
-# DIR is made, or gone on with where it was stopped. Where there are no options they are --hard, and of five states the known
-# records of those tables that no search of bb finds. BB names the program (bb beside contrib/ if it isn't set), JOBS how many
-# parts are settled at once, FILLED how many entries the tables of the trunk have (N, at most 5, if it isn't set). What is done
-# is said on standard error; the report comes on standard output, and its exit status. Where parts fail, it ends with 1.
+# DIR is made; a run that was stopped goes on from it. Without options it takes --hard, and for five states also the known records
+# of the tables that no search of bb settles. BB names the program (bb beside contrib/ if it isn't set), JOBS how many parts are
+# settled at once, FILLED how many entries the tables of the trunk have (N - 1 up to four states, N from five on, if it isn't
+# set).
+#
+# Before it begins it says how much disk the tree takes and how much there is, and stops where that isn't enough; ROOM=any begins
+# all the same. contrib/parallel.sh then says how far it is, and names each part that fails: the others go on, and the script ends
+# with 1. The report comes on standard output, and the exit status is that of bb join.
 set -e
-states=${1:?"contrib/tree.sh N DIR [OPTIONS..]"}
-folder=${2:?"contrib/tree.sh N DIR [OPTIONS..]"}
+usage='contrib/tree.sh N DIR [OPTIONS..], with N from 1 to 7'
+states=${1:?"$usage"}
+folder=${2:?"$usage"}
 shift 2
+case $states in [1-7]) ;; *) echo "$usage" >&2; exit 2 ;; esac
 here=$(dirname "$0")
 if [ $# -eq 0 ]; then
     set -- --hard
@@ -17,18 +23,27 @@ fi
 # The script bb sums up its sources each time: it is asked once which program it runs.
 BB=${BB:-$("$here/../bb" --where)}
 export BB
-filled=${FILLED:-$((states < 5 ? states : 5))}
+filled=${FILLED:-$((states < 5 ? states - 1 : states))}
 
-# What the ledgers of a tree take, by trees that were settled so, and of six states by a sample.
+# The megabytes of a tree's ledgers: up to five states as they were settled, six by a sample. Of seven nobody knows.
 case $states in
-    4) takes="70 megabytes" ;;
-    5) takes="9.2 gigabytes" ;;
-    6) takes="3.8 terabytes" ;;
-    *) takes="less than a megabyte" ;;
+    4) takes=35 ;;
+    5) takes=9300 ;;
+    6) takes=3800000 ;;
+    7) takes= ;;
+    *) takes=1 ;;
 esac
 parent=$folder
 while [ ! -d "$parent" ]; do parent=$(dirname "$parent"); done
-echo "the tree of $states states takes $takes of disk; there are $(($(df -Pk "$parent" | awk 'END { print $4 }') / 1000)) megabytes" >&2
+room=$(df -Pk "$parent" | awk 'END { printf "%.0f", $4 * 1024 / 1e6 }')
+begun=0
+[ ! -d "$folder" ] || begun=$(du -sk "$folder" | awk '{ printf "%.0f", $1 * 1024 / 1e6 }')
+echo "disk: $states states take ${takes:-nobody knows how many} megabytes, $folder has $begun of them, and $room are free" >&2
+if [ "${takes:-0}" -gt $((begun + room)) ] && [ "$ROOM" != any ]; then
+    echo "disk: that isn't enough. contrib/parallel.sh --xz needs a tenth of it; ROOM=any begins all the same" >&2
+    exit 1
+fi
+
 echo "1 of 3: the trunk of $folder" >&2
 "$BB" split "$states" "$folder" --filled "$filled" "$@" >&2
 echo "2 of 3: its parts; one that is done is only read" >&2

@@ -1,32 +1,44 @@
 #!/bin/sh
 # Walks the tree of N states on all processors of this machine, and adds the reports up:
 #   contrib/walk.sh N [K] [OPTIONS OF bb walk..]
-# The tables with fewer than K filled entries (4 if it isn't said) are a trunk's; each table that this leaves open is the root
-# of a walk, and their trees are disjoint. Where there are no options they are --hard and the known records of five states that
-# no search of bb finds. BB names the program (bb beside contrib/ if it isn't set), JOBS how many walks go on at once. The report comes on
-# standard output; status 0 where it says complete, 1 where it doesn't.
+# The tables with fewer than K filled entries (4, or N - 1 for less than five states) are the trunk; each table that it leaves open
+# is the root of a walk, and their trees are disjoint. Without options it takes --hard, and for five states also the known records of
+# the tables that no search of bb settles. BB names the program (bb beside contrib/ if it isn't set), JOBS how many walks go on at
+# once. Every ten seconds, or every EVERY seconds, standard error says how many are done; a walk that fails is named with its exit
+# status, and ends the script. The report comes on standard output; status 0 where it says complete, 1 where it doesn't.
 #
-# It adds, and proves nothing: what is proved is said of each report by itself. bb walk N, in one process, proves the whole, and
+# It adds, and proves nothing: what is proved holds of each report by itself. bb walk N, in one process, proves the whole, and
 # so do contrib/tree.sh and bb join, which keep all records.
 set -e
 states=${1:?"contrib/walk.sh N [K] [OPTIONS..]"}
 shift
-filled=4
+filled=$((states < 5 ? states - 1 : 4))
 case $1 in [0-9]*) filled=$1; shift ;; esac
-[ $# -gt 0 ] || set -- --hard --known "$(dirname "$0")/../examples/five-states.known"
+if [ $# -eq 0 ]; then
+    set -- --hard
+    [ "$states" != 5 ] || set -- --hard --known "$(dirname "$0")/../examples/five-states.known"
+fi
 # The script bb sums up its sources each time: it is asked once which program it runs.
 bb=${BB:-$("$(dirname "$0")/../bb" --where)}
 jobs=${JOBS:-$(getconf _NPROCESSORS_ONLN)}
 folder=$(mktemp -d)
-trap 'rm -rf "$folder"' EXIT
+teller=
+trap 'kill $teller 2> /dev/null || :; rm -rf "$folder"' EXIT
 mkdir "$folder/reports"
 "$bb" split "$states" "$folder/tree" --filled "$filled" "$@" >&2
 "$bb" report "$folder/tree/trunk.ledger" > "$folder/trunk" || [ $? -eq 1 ]
-# A part's ledger has the name of its root. A walk that leaves holdouts ends with 1; what ends with more stops all.
+# A part's ledger has the name of its root. A walk that leaves holdouts ends with 1; what ends with more stops all. A report that has
+# anything in it is done.
 find "$folder/tree" -name '*.ledger' ! -name trunk.ledger -exec basename {} .ledger \; | LC_ALL=C sort > "$folder/roots"
-echo "$(wc -l < "$folder/roots") walks, $jobs at once" >&2
-xargs -P "$jobs" -I {} sh -c 'reports=$1 states=$2 root=$3; shift 3
-    "$0" walk "$states" --root "$root" "$@" > "$reports/$root" || [ $? -eq 1 ] || exit 255' \
+all=$(wc -l < "$folder/roots")
+echo "$all walks, $jobs at once" >&2
+while sleep "${EVERY:-10}" < /dev/null > /dev/null 2>&1 && kill -0 $$ 2> /dev/null; do
+    echo "$(find "$folder/reports" -size +0 -name '*_*' | wc -l) of $all walks done" >&2
+done &
+teller=$!
+xargs -P "$jobs" -I {} sh -c 'reports=$1 states=$2 root=$3 status=0; shift 3
+    "$0" walk "$states" --root "$root" "$@" > "$reports/$root" || status=$?
+    [ "$status" -le 1 ] || { echo "$root: status $status" >&2; exit 255; }' \
     "$bb" "$folder/reports" "$states" {} "$@" < "$folder/roots"
 # The trunk's open tables are the roots, which are counted with their walks.
 { cat "$folder/trunk"; xargs -I {} cat "$folder/reports/{}" < "$folder/roots"; } | LC_ALL=C awk '

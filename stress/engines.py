@@ -1,5 +1,5 @@
 #!/usr/bin/env python3
-"""Works off the tree of four states in parts by contrib/parallel.sh and by Slurm, kills what works and begins it again, and compares
+"""Settles the tree of four states in parts by contrib/parallel.sh and by Slurm, kills what works and begins it again, and compares
 bb join's report with bb run's. Debian's package slurm-wlm is installed where it isn't there; Slurm is
 started here, with this computer as its only node, and stopped at the end. A number as argument is the seed of the kills."""
 import glob
@@ -95,7 +95,7 @@ class Slurm:
             os.mkdir(os.path.join(folder, name))
         with open(path, "w", encoding="ascii") as file:
             file.write(CONFIGURATION.format(host=socket.gethostname(), folder=folder, processors=os.cpu_count()))
-        self.environment = dict(os.environ, SLURM_CONF=path, BB=PROGRAM, PART=os.path.join(TOP, "contrib", "part.sh"))
+        self.environment = dict(os.environ, SLURM_CONF=path, BB=PROGRAM, CONTRIB=os.path.join(TOP, "contrib"))
         self.pids = [os.path.join(folder, f"{name}.pid") for name in ("slurmd", "slurmctld")]
         for daemon in ("slurmctld", "slurmd"):
             subprocess.run([daemon, "-f", path], env=self.environment, check=True)

@@ -4,9 +4,10 @@
 README's first steps (packaging/first_steps); the help of each command that README's table has, long and short; a list
 as people keep it, with CR LF, comments, CSV, links, blank and doubled lines, through `bb tables`, `bb decide --hard`
 and `bb check`, each of its lines accounted for; answers of which only the beginning is read; wrong command lines; a
-file given where lines are read, and lines where a file is; what bash completes, and the Debian package, which are made
-of the kept program where bash and dpkg-deb are there. What has to come is from README, docs/FORMATS.md, docs/TOUR.md
-and docs/FIVE.md. Prints what differs, and how much was tried; ends with 1 where anything differs.
+file given where lines are read, and lines where a file is; trees in parts by the scripts of contrib/, from another
+folder, with too little disk, with a part that can't be settled, and as they are packaged; a list by several processes; what bash
+completes, and the Debian package, which are made of the kept program where bash and dpkg-deb are there. What has to come is from
+README, docs/FORMATS.md, docs/TOUR.md and docs/FIVE.md. Prints what differs, and how much was tried; ends with 1 where anything differs.
 """
 import os
 import re
@@ -184,6 +185,19 @@ def lists(tries):
     tries.expect((status, refused, faults) == (1, len(LIST), ""), f"bb decide --hard of the whole list: {status}, {refused} refused, {faults!r}")
 
 
+def by_several(tries):
+    """A list by several processes, as TOUR has it: the same bytes as by one."""
+    ledger = os.path.join(TOP, "examples", "three-states.ledger")
+    tries.run(f"bb tables < {ledger} > tables && bb decide --hard < tables > one")
+    ways = ["split -l 50 tables part. && ls part.* | xargs -P 4 -I {} sh -c 'bb decide --hard < {} > {}.records' && cat part.*.records"]
+    if shutil.which("parallel"):
+        ways.append("parallel -k --pipe -N50 bb decide --hard < tables")
+    for way in ways:
+        status, _, faults = tries.run(f"{{ {way}; }} | cmp - one")
+        tries.expect(status == 0, f"{way}: other bytes than by one process: {faults!r}")
+    tries.run("rm tables one part.*")
+
+
 def beginnings(tries):
     """Answers of which only the beginning is read: it comes, and nobody complains."""
     with open(os.path.join(tries.here, "many"), "w", encoding="ascii") as file:
@@ -227,6 +241,66 @@ def mixed_up(tries):
         status, said, faults = tries.run(f"bb {name} < tables.txt")
         tries.expect((status, said) == (2, ""), f"bb {name} < FILE: {status}, {said!r}")
         tries.expect(re.search(r"<(FILE|PATH|IN)>", faults), f"bb {name} < FILE: doesn't say that a file is to be named: {faults!r}")
+
+
+# What `bb join` has to say of two states.
+TWO_STATES = "nodes 61\nhalting 19\nnever 42\nholdouts 0\nopen 0\nbest 6\n"
+# A program that takes its time for a part, and a system whose disk is full.
+SLOW = '#!/bin/sh\n[ "$1" != settle ] || sleep 0.6\nexec bb "$@"\n'
+FULL = "#!/bin/sh\necho Filesystem 1024-blocks Used Available Capacity Mounted\necho none 9 9 0 100% /\n"
+
+
+def script(path, text):
+    os.makedirs(os.path.dirname(path), exist_ok=True)
+    with open(path, "w", encoding="ascii") as file:
+        file.write(text)
+    os.chmod(path, 0o755)
+
+
+def trees(tries, program):
+    """Trees in parts, by the scripts of contrib/ beside a `bb` that says where its program is, as that of a repository does. Of
+    the examples nothing is there, since five states alone need it."""
+    house = os.path.join(tries.folder, "house")
+    shutil.copytree(os.path.join(TOP, "contrib"), os.path.join(house, "contrib"))
+    script(os.path.join(house, "bb"), f'#!/bin/sh\n[ "$1" != --where ] || echo "{program}"\n')
+    script(os.path.join(house, "slow"), SLOW)
+    script(os.path.join(house, "full", "df"), FULL)
+    _, due, _ = tries.run("bb run 3 --hard")
+    for name in ("tree.sh 3 three", "walk.sh 3", "all.sh 3", "coordinators.sh 3 shared"):
+        status, said, faults = tries.run(f"unset BB; ../house/contrib/{name}")
+        tries.expect((status, said) == (0, due), f"contrib/{name} from another folder: {status}, {said!r}, {faults!r}")
+        if name.startswith("tree"):
+            tries.expect(re.search(r"^disk: 3 states take 1 megabytes, three has 0 of them, and \d+ are free$", faults, re.MULTILINE), f"contrib/{name} doesn't say how much disk: {faults!r}")
+            tries.expect(re.search(r"^24 of 24 parts done, 5412 tables, \d+ a second, 0:00:00 left$", faults, re.MULTILINE), f"contrib/{name} doesn't say what is done: {faults!r}")
+    status, said, faults = tries.run("BB=../house/slow EVERY=1 JOBS=1 ../house/contrib/tree.sh 2 slowly")
+    tries.expect(status == 0 and TWO_STATES in said, f"contrib/tree.sh 2 by a slow program: {status}, {said!r}")
+    tries.expect(re.search(r"^[1-3] of 4 parts done, \d+ tables, \d+ a second, 0:00:0\d left$", faults, re.MULTILINE), f"contrib/tree.sh doesn't say how far it is: {faults!r}")
+    # The folder's name has what a shell may take for more than a name.
+    bad = "it's \"two\"/1RB---_------.ledger"
+    status, said, faults = tries.run(f"bb split 2 \"it's \\\"two\\\"\" --filled 1 --hard && rm '{quoted(bad)}' && mkdir '{quoted(bad)}'")
+    tries.expect(status == 0, f"a folder in place of a part: {status}, {faults!r}")
+    status, said, faults = tries.run("unset BB; ../house/contrib/tree.sh 2 \"it's \\\"two\\\"\"")
+    tries.expect((status, said) == (1, "") and re.search(rf"^{re.escape(bad)}: status [2-9]$", faults, re.MULTILINE), f"contrib/tree.sh with a bad part: {status}, {said!r}, {faults!r}")
+    tries.expect("4 of 4 parts done, 19 tables, " in faults and "1 parts failed" in faults, f"contrib/tree.sh with a bad part doesn't settle the others: {faults!r}")
+    status, said, faults = tries.run("PATH=../house/full:$PATH; unset BB; ../house/contrib/tree.sh 4 four")
+    tries.expect(status == 1 and "disk: 4 states take 35 megabytes, four has 0 of them, and 0 are free\n" in faults, f"contrib/tree.sh on a full disk: {status}, {faults!r}")
+    tries.expect(not os.path.exists(os.path.join(tries.here, "four")), "contrib/tree.sh begins on a full disk")
+    status, said, faults = tries.run("PATH=../house/full:$PATH; unset BB; ROOM=any ../house/contrib/tree.sh 2 any")
+    tries.expect(status == 0 and TWO_STATES in said, f"contrib/tree.sh on a full disk, asked to begin: {status}, {faults!r}")
+    # As Slurm runs it: a copy in a folder of its own. And as it is packaged.
+    packed = os.path.join(tries.folder, "packed")
+    made(tries, ["contrib", os.path.join(packed, "contrib"), "contrib"])
+    os.symlink(program, os.path.join(packed, "bb"))
+    shutil.copy(os.path.join(house, "contrib", "slurm.sh"), os.path.join(tries.folder, "copied"))
+    status, said, faults = tries.run("unset BB; bb split 2 two --filled 1 --hard && CONTRIB=../house/contrib ../copied two --hard && ../packed/contrib/slurm.sh two && bb join two")
+    tries.expect(status == 0 and TWO_STATES in said, f"contrib/slurm.sh from another folder: {status}, {said!r}, {faults!r}")
+    status, said, faults = tries.run("unset BB; ../packed/contrib/tree.sh 2 packed")
+    tries.expect(status == 0 and TWO_STATES in said, f"the packaged contrib/tree.sh from another folder: {status}, {said!r}, {faults!r}")
+
+
+def quoted(name):
+    """A name as it stands between single quotes of the shell."""
+    return name.replace("'", "'\\''")
 
 
 def made(tries, words):
@@ -273,8 +347,10 @@ def main():
         wrong_lines(tries)
         helps(tries)
         lists(tries)
+        by_several(tries)
         beginnings(tries)
         mixed_up(tries)
+        trees(tries, program)
         packages(tries, program)
     for text in tries.found:
         print(text)

@@ -2,8 +2,8 @@
 """The examples of README.md and docs/TOUR.md, as they stand there: stress/examples.py [DOCUMENT ..].
 
 Each line that begins with `$ ` in an indented block is given to the shell, the commands of a document one after the other in one
-folder, where `bb` and `./bb` are the program, and `examples` and `contrib` the folders of these names; what is printed on both outputs has to be the
-lines below it. A file of `examples` that the cases read too, from crates/cases/data, has to be the same there: the gate takes no
+folder, where `bb` and `./bb` are the program, which the variable BB names too, and `examples` and `contrib` the folders of these
+names; what is printed on both outputs has to be the lines below it. A file of `examples` that the cases read too, from crates/cases/data, has to be the same there: the gate takes no
 links. Ends with 1 at the first that differs.
 """
 import filecmp
@@ -55,7 +55,7 @@ def main():
                 os.symlink(PROGRAM, os.path.join(folder, link))
             for part in ("examples", "contrib"):
                 os.symlink(os.path.join(TOP, part), os.path.join(folder, part))
-            environment = {**os.environ, "PATH": f"{folder}/bin:{os.environ['PATH']}", "LC_ALL": "C"}
+            environment = {**os.environ, "BB": PROGRAM, "PATH": f"{folder}/bin:{os.environ['PATH']}", "LC_ALL": "C"}
             for command, printed in examples_of(document):
                 done = subprocess.run(["sh", "-c", command], cwd=folder, env=environment, stdout=subprocess.PIPE, stderr=subprocess.STDOUT, text=True, check=False)
                 if done.stdout != printed:

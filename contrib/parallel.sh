@@ -6,8 +6,8 @@
 # what is left: a part that is done takes as long as reading it, a compressed one no time.
 #
 # Every ten seconds, or every EVERY seconds, standard error says how far it is. A part that fails is named with its exit status,
-# the others go on, and the script ends with 1. DIR/parallel.log has a line for each part: its status, what was said, and its
-# name.
+# the others go on, and the script ends with 1. DIR/parallel.log has a line for each part: its status, what bb settle printed, and
+# its name.
 set -e
 compress=
 [ "$1" != --xz ] || { compress=--xz; shift; }

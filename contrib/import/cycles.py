@@ -3,7 +3,7 @@
 
 usage: contrib/import/cycles.py [FILE]
 
-    MACHINE I J                      the configurations at the times I and J are to be equal, but for a shift
+    MACHINE I J                      the configurations at the times I and J are to be equal, except for a shift
     MACHINE START PERIOD             those at the times START and START + PERIOD are
     MACHINE START PERIOD OFFSET      the same; the offset is read over, since the run tells it
 
@@ -36,7 +36,7 @@ def steps(table, config, count):
 
 
 def repeated(table, i, j):
-    """The kind and the fields behind its times where the run is at time j as at time i, but for a shift; else None."""
+    """The kind and the fields behind its times where the run is at time j as at time i, except for a shift; else None."""
     first = steps(table, (bytearray(2 * j + 1), j, 0), i)
     if first is None:
         return None

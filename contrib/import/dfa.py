@@ -11,7 +11,7 @@ usage: contrib/import/dfa.py [--kind F|A] [--machines LIST | --seeds DATABASE] [
 For each state of the automaton, from 0 on, the states to which it goes on 0 and on 1. It starts in 0 and stays there on 0.
 SIDE is `0`, `L2R`, `left-to-right` or `R` where it reads the half tape on the left of the head, from far away towards the
 head, as in a record of side R; `1`, `R2L`, `right-to-left` or `L` where it reads the one on the right. Not all lists mean the
-same by such a word, so the other side is tried too, where the one that is said doesn't do; before brackets it may be left out.
+same by such a word, so the other side is tried too, where the one that is given doesn't do; before brackets it may be left out.
 
 INDEX is that of a machine in LIST, whose lines with a machine count from 0, or in DATABASE: 30 bytes for each machine of five
 states behind a header of 30, for each pair of state and symbol the symbol written, 0 for right or 1 for left, and the next

@@ -1,6 +1,6 @@
 //! A second judge of a whole tree: what bb join prints of a folder, in plain Rust, written from docs/FORMATS.md. Each record of the
 //! trunk and of each part is judged again, by the judges of this folder; only that the eight tables of the kind P never halt is
-//! taken as said. Build with `rustc --edition 2021 -O plain_join.rs`; arguments: the folder and how many threads. How many
+//! taken on trust. Build with `rustc --edition 2021 -O plain_join.rs`; arguments: the folder and how many threads. How many
 //! records there are of each kind goes to standard error.
 #[allow(dead_code)]
 mod machine;
@@ -12,6 +12,9 @@ mod plain_judges;
 #[allow(dead_code)]
 #[path = "plain_listed.rs"]
 mod plain_listed;
+#[allow(dead_code)]
+#[path = "plain_rules.rs"]
+mod plain_rules;
 
 use machine::{children, parse, printed, Row};
 use std::collections::{BTreeMap, HashMap, HashSet};
@@ -98,6 +101,7 @@ fn judged(line: &str, table: &[Row], kind: &str, fields: &[&str]) -> Option<(Sho
         "F" => plain_judges::reduced(table, fields)?,
         "A" => plain_listed::answer(line).ends_with(" never"),
         "W" => plain_counted::answer(line).ends_with(" never"),
+        "R" => plain_rules::answer(line).ends_with(" never"),
         "P" if fields.is_empty() => NAMED.contains(&printed(table).as_str()),
         _ => return None,
     };

@@ -1,13 +1,13 @@
 #!/usr/bin/env python3
 """The ways of a new user, on the built program in an empty folder: stress/user.py [PROGRAM].
 
-README's first steps (packaging/first_steps); the help of each command that README's table has, long and short; a list
-as people keep it, with CR LF, comments, CSV, links, blank and doubled lines, through `bb tables`, `bb decide --hard`
-and `bb check`, each of its lines accounted for; answers of which only the beginning is read; wrong command lines; a
-file given where lines are read, and lines where a file is; trees in parts by the scripts of contrib/, from another
-folder, with too little disk, with a part that can't be settled, and as they are packaged; a list by several processes; what bash
-completes, and the Debian package, which are made of the kept program where bash and dpkg-deb are there. What has to come is from
-README, docs/FORMATS.md, docs/TOUR.md and docs/FIVE.md. Prints what differs, and how much was tried; ends with 1 where anything differs.
+README's first steps (packaging/first_steps); the help of each command that README's table has, long and short; a list as people
+keep it, with CR LF, comments, CSV, links, blank and doubled lines, through `bb tables`, `bb decide --hard` and `bb check`, each of
+its lines accounted for; a list by several processes; answers of which only the beginning is read; wrong command lines; a file given
+where lines are read, and lines where a file is; trees in parts by the scripts of contrib/, from another folder, with too little
+disk, with a part that can't be settled, as they are packaged, and beside the plain judge that README names; what bash completes,
+and the Debian package, which are made of the kept program where bash and dpkg-deb are there. What has to come is from README,
+docs/FORMATS.md, docs/TOUR.md and docs/FIVE.md. Prints what differs, and how much was tried; ends with 1 where anything differs.
 """
 import os
 import re
@@ -272,6 +272,12 @@ def trees(tries, program):
         if name.startswith("tree"):
             tries.expect(re.search(r"^disk: 3 states take 1 megabytes, three has 0 of them, and \d+ are free$", faults, re.MULTILINE), f"contrib/{name} doesn't say how much disk: {faults!r}")
             tries.expect(re.search(r"^24 of 24 parts done, 5412 tables, \d+ a second, 0:00:00 left$", faults, re.MULTILINE), f"contrib/{name} doesn't say what is done: {faults!r}")
+    if shutil.which("rustc"):
+        plain = os.path.join(TOP, "bench", "plain_join.rs")
+        status, said, faults = tries.run(f"rustc --edition 2021 -O -o ../plain_join {plain} && ../plain_join three 4")
+        tries.expect((status, said) == (0, due), f"the plain judge of a tree: {status}, {said!r}, {faults!r}")
+    else:
+        print("user: there is no rustc, and the plain judge wasn't asked")
     status, said, faults = tries.run("BB=../house/slow EVERY=1 JOBS=1 ../house/contrib/tree.sh 2 slowly")
     tries.expect(status == 0 and TWO_STATES in said, f"contrib/tree.sh 2 by a slow program: {status}, {said!r}")
     tries.expect(re.search(r"^[1-3] of 4 parts done, \d+ tables, \d+ a second, 0:00:0\d left$", faults, re.MULTILINE), f"contrib/tree.sh doesn't say how far it is: {faults!r}")

@@ -67,7 +67,7 @@ def split(folder):
 
 
 class Parallel:
-    """Parts worked off on one machine."""
+    """Parts that one machine settles."""
 
     name = "contrib/parallel.sh"
 
@@ -85,7 +85,7 @@ class Parallel:
 
 
 class Slurm:
-    """Parts worked off by an array job."""
+    """Parts that an array job settles."""
 
     name = "Slurm"
 
@@ -127,7 +127,7 @@ class Slurm:
 
 
 def settled(engine, folder, rng):
-    """The report of a tree whose parts an engine worked off, begun again after each kill."""
+    """The report of a tree whose parts an engine settled, begun again after each kill."""
     told = split(folder)
     for _ in range(KILLS):
         engine.begin(folder)

@@ -38,9 +38,9 @@ while [ ! -d "$parent" ]; do parent=$(dirname "$parent"); done
 room=$(df -Pk "$parent" | awk 'END { printf "%.0f", $4 * 1024 / 1e6 }')
 begun=0
 [ ! -d "$folder" ] || begun=$(du -sk "$folder" | awk '{ printf "%.0f", $1 * 1024 / 1e6 }')
-echo "disk: $states states take ${takes:-nobody knows how many} megabytes, $folder has $begun of them, and $room are free" >&2
+echo "disk: a tree of $states states takes ${takes:-an unknown number of} MB; $folder has $begun MB of it, and $room MB are free" >&2
 if [ "${takes:-0}" -gt $((begun + room)) ] && [ "$ROOM" != any ]; then
-    echo "disk: that isn't enough. contrib/parallel.sh --xz needs a tenth of it; ROOM=any begins all the same" >&2
+    echo "disk: that isn't enough. ROOM=any begins all the same; bb split and contrib/parallel.sh --xz need a tenth" >&2
     exit 1
 fi
 

@@ -270,7 +270,7 @@ def trees(tries, program):
         status, said, faults = tries.run(f"unset BB; ../house/contrib/{name}")
         tries.expect((status, said) == (0, due), f"contrib/{name} from another folder: {status}, {said!r}, {faults!r}")
         if name.startswith("tree"):
-            tries.expect(re.search(r"^disk: 3 states take 1 megabytes, three has 0 of them, and \d+ are free$", faults, re.MULTILINE), f"contrib/{name} doesn't say how much disk: {faults!r}")
+            tries.expect(re.search(r"^disk: a tree of 3 states takes 1 MB; three has 0 MB of it, and \d+ MB are free$", faults, re.MULTILINE), f"contrib/{name} doesn't say how much disk: {faults!r}")
             tries.expect(re.search(r"^24 of 24 parts done, 5412 tables, \d+ a second, 0:00:00 left$", faults, re.MULTILINE), f"contrib/{name} doesn't say what is done: {faults!r}")
     if shutil.which("rustc"):
         plain = os.path.join(TOP, "bench", "plain_join.rs")
@@ -280,7 +280,7 @@ def trees(tries, program):
         print("user: there is no rustc, and the plain judge wasn't asked")
     status, said, faults = tries.run("BB=../house/slow EVERY=1 JOBS=1 ../house/contrib/tree.sh 2 slowly")
     tries.expect(status == 0 and TWO_STATES in said, f"contrib/tree.sh 2 by a slow program: {status}, {said!r}")
-    tries.expect(re.search(r"^[1-3] of 4 parts done, \d+ tables, \d+ a second, 0:00:0\d left$", faults, re.MULTILINE), f"contrib/tree.sh doesn't say how far it is: {faults!r}")
+    tries.expect(re.search(r"^[1-3] of 4 parts done, \d+ tables, \d+ a second, \d+:\d\d:\d\d left$", faults, re.MULTILINE), f"contrib/tree.sh doesn't say how far it is: {faults!r}")
     # The folder's name has what a shell may take for more than a name.
     bad = "it's \"two\"/1RB---_------.ledger"
     status, said, faults = tries.run(f"bb split 2 \"it's \\\"two\\\"\" --filled 1 --hard && rm '{quoted(bad)}' && mkdir '{quoted(bad)}'")
@@ -289,7 +289,7 @@ def trees(tries, program):
     tries.expect((status, said) == (1, "") and re.search(rf"^{re.escape(bad)}: status [2-9]$", faults, re.MULTILINE), f"contrib/tree.sh with a bad part: {status}, {said!r}, {faults!r}")
     tries.expect("4 of 4 parts done, 19 tables, " in faults and "1 parts failed" in faults, f"contrib/tree.sh with a bad part doesn't settle the others: {faults!r}")
     status, said, faults = tries.run("PATH=../house/full:$PATH; unset BB; ../house/contrib/tree.sh 4 four")
-    tries.expect(status == 1 and "disk: 4 states take 35 megabytes, four has 0 of them, and 0 are free\n" in faults, f"contrib/tree.sh on a full disk: {status}, {faults!r}")
+    tries.expect(status == 1 and "disk: a tree of 4 states takes 35 MB; four has 0 MB of it, and 0 MB are free\n" in faults, f"contrib/tree.sh on a full disk: {status}, {faults!r}")
     tries.expect(not os.path.exists(os.path.join(tries.here, "four")), "contrib/tree.sh begins on a full disk")
     status, said, faults = tries.run("PATH=../house/full:$PATH; unset BB; ROOM=any ../house/contrib/tree.sh 2 any")
     tries.expect(status == 0 and TWO_STATES in said, f"contrib/tree.sh on a full disk, asked to begin: {status}, {faults!r}")

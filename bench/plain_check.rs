@@ -16,7 +16,7 @@ use machine::parse;
 use std::io::{self, BufRead, BufWriter, Write};
 
 /// The verdict of a record, as bb check prints it.
-fn verdict(line: &str) -> Option<String> {
+pub fn verdict(line: &str) -> Option<String> {
     let parts: Vec<&str> = line.split(' ').collect();
     let table = parse(parts[0].as_bytes()).ok()?;
     let fields = &parts[2..];

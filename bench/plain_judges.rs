@@ -1,6 +1,6 @@
 //! Judges of halting, loops, backward reasoning and finite automata reduction in plain Rust, from docs/FORMATS.md: what
 //! plain_join.rs uses beside those of large and counted automata and of rules with induction.
-use crate::machine::{halts_on, number, Row};
+use super::machine::{halts_on, number, Entry, Row};
 use std::collections::HashMap;
 
 /// A run on a byte tape that grows to both sides.
@@ -156,7 +156,7 @@ pub fn backward(table: &[Row], fields: &[&str]) -> Option<bool> {
 
 /// Whether some configuration comes to one in a state at a cell, with these cells known, by so many steps.
 fn leads_to(
-    leads: &[Vec<(usize, u8, crate::machine::Entry)>],
+    leads: &[Vec<(usize, u8, Entry)>],
     state: usize,
     at: i64,
     cells: &mut HashMap<i64, u8>,

@@ -1,15 +1,16 @@
-//! A sample of the tree of six states, by random descent: `TABLE WEIGHT` a line, and how many were drawn on standard error.
+//! A sample of the tree of six states, or of so many, by random descent: `TABLE WEIGHT` a line, and how many were drawn on standard error.
 //! From 3 to 10 filled entries each child is kept by chance, one of four, and then counts four times as much; so the sum of
 //! the weights is an unbiased estimate of the number of tables (Knuth 1975). Descents from the root are made until as many
 //! tables are drawn as asked for; the weights are divided by how many descents that were, so that they add up to the tree.
-//! A table that halts later than the limit in steps has no children here. Arguments: a seed, and how many tables.
+//! A table that halts later than the limit in steps has no children here. Arguments: a seed, how many tables, and of how
+//! many states, six where it isn't said.
 #[allow(dead_code)]
 mod machine;
 
 use machine::{children, halts_on, printed, Row};
 use std::io::{self, BufWriter, Write};
 
-const STATES: usize = 6;
+const STATES: u64 = 6;
 const STEPS: u64 = 2_000;
 
 /// Numbers that look like chance (Vigna's splitmix).
@@ -43,12 +44,12 @@ fn descend(rows: &[Row], weight: u64, chance: &mut Chance, drawn: &mut Vec<(Stri
 
 fn main() -> io::Result<()> {
     let arguments: Vec<u64> = std::env::args().skip(1).map(|text| text.parse().expect("a number")).collect();
-    let (seed, count) = (arguments[0], arguments[1] as usize);
+    let (seed, count, states) = (arguments[0], arguments[1] as usize, *arguments.get(2).unwrap_or(&STATES) as usize);
     let mut chance = Chance(seed);
     let mut drawn = Vec::new();
     let mut descents = 0;
     while drawn.len() < count {
-        descend(&vec![[None; 2]; STATES], 1, &mut chance, &mut drawn);
+        descend(&vec![[None; 2]; states], 1, &mut chance, &mut drawn);
         descents += 1;
     }
     let mut out = BufWriter::new(io::stdout().lock());

@@ -49,7 +49,7 @@ class Command:
                 part = None
             elif part == "Arguments:":
                 argument, does = line.strip().split("  ", 1)
-                self.arguments.append((argument.strip("<>[]"), does.strip()))
+                self.arguments.append((argument.strip("<>[]."), does.strip()))
             elif part == "Options:":
                 self.options.append(Option(*OPTION.match(line).groups()))
         lines = long.rstrip("\n").split("\n")

@@ -37,6 +37,10 @@ def text_of(line):
     return ESCAPED.sub(one, line.encode())
 
 
+# What is said of a cut: over files in memory it is among the calls.
+CUT = re.compile(rb"^[^\n]+: [0-9]+ bytes were cut off, and are kept in [^\n]+\.cut\n", re.M)
+
+
 class Said:
     """What has to stand somewhere: lines, and what kind they are."""
 
@@ -229,7 +233,7 @@ def play_step(folder, step, answers):
     answers.append(done.stdout)
     if done.returncode != step.status:
         return f"status {done.returncode} in place of {step.status}; {done.stderr!r}"
-    for name, said, found in (("standard output", step.answers, done.stdout), ("standard error", step.faults, done.stderr)):
+    for name, said, found in (("standard output", step.answers, done.stdout), ("standard error", step.faults, CUT.sub(b"", done.stderr))):
         if not said.is_met(found, answers, folder):
             return f"{name}: {found!r}"
     after = held(folder)

@@ -5,6 +5,7 @@ started here, with this computer as its only node, and stopped at the end. A num
 import glob
 import os
 import random
+import re
 import shutil
 import signal
 import socket
@@ -162,7 +163,7 @@ def main():
     with tempfile.TemporaryDirectory() as folder:
         second = second_settle(os.path.join(folder, "parts"))
         print(f"a second bb settle: status {second[0]}, {second[2].decode().strip()}")
-        if second != (4, b"", b"refused 606: another process writes the ledger\n"):
+        if second[:2] != (4, b"") or not re.fullmatch(rb"refused 606: another process writes the ledger\n[^\n]+: resource busy\n", second[2]):
             return 1
         slurm = Slurm(folder)
         try:

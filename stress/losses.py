@@ -9,6 +9,7 @@ otherwise than docs/FORMATS.md says.
 import fcntl
 import os
 import pty
+import re
 import shutil
 import socket
 import subprocess
@@ -25,6 +26,9 @@ ROOT, LEFT, RIGHT = b"------ H 1 1\n", b"0RA--- T 0 1 R\n", b"1RA--- T 0 1 R\n"
 WHOLE = HEADER + ROOT + LEFT + RIGHT
 SPOILT = HEADER + ROOT + LEFT[:-1] + b"\r\n" + RIGHT
 CUT = LEFT[:-1] + b"\r\n" + RIGHT
+
+# What ends a command whose files or streams fail; a line behind it names what failed.
+REFUSED = (b"refused 603\n", b"refused 604\n", b"refused 605\n", b"refused 606: another process writes the ledger\n")
 TRUNK = HEADER + ROOT
 PARTS = {
     "parts/trunk.ledger": TRUNK,
@@ -91,6 +95,9 @@ class Room:
         how = how if "stdin" in how else {**how, "input": given}
         ran = subprocess.run([PROGRAM, *words], capture_output=True, cwd=self.folder, check=False, **how)
         told = (ran.returncode, ran.stdout, ran.stderr)
+        if faults in REFUSED and re.fullmatch(re.escape(faults) + rb"[^\n]+: [^\n]+\n", ran.stderr):
+            # which file or stream failed, and why
+            told = (ran.returncode, ran.stdout, faults)
         if told != (status, answers, faults):
             sys.exit(f"losses: {words}: {told!r}, and not {(status, answers, faults)!r}")
         if self.held() != due:
@@ -203,6 +210,11 @@ def pipes():
             sys.exit(f"losses: {shell}: {ran!r}")
 
 
+def cut_words(name):
+    """What is said of a ledger that is cut."""
+    return b"%s: %d bytes were cut off, and are kept in %s.cut\n" % (name.encode(), len(CUT), name.encode())
+
+
 def cuts():
     """What is cut off a ledger is kept beside it, behind what was kept there before."""
     for words, given, answers, after in (
@@ -212,9 +224,10 @@ def cuts():
         (["settle", "a"], b"", b"settled 2 holdouts 0\n", TRUNK + LEFT + RIGHT),
     ):
         room = Room({"a": SPOILT})
-        room.run(words, 0, answers, given=given, after={"a": after, "a.cut": CUT})
+        told = cut_words("a") if words[0] == "settle" else b""
+        room.run(words, 0, answers, told, given=given, after={"a": after, "a.cut": CUT})
         room.write("a", SPOILT)
-        room.run(words, 0, answers, given=given, after={"a": after, "a.cut": CUT + CUT})
+        room.run([*words, "--why"], 0, answers, cut_words("a"), given=given, after={"a": after, "a.cut": CUT + CUT})
         room.write("a", WHOLE[:-1])
         room.run(words, 0, answers if words[0] != "settle" else b"settled 1 holdouts 0\n", given=given, after={"a": WHOLE})
         room.run(["mend", "-", "b"], 1, b"mended 2 dropped 1\n", given=TRUNK + CUT, after={"b": HEADER + ROOT + RIGHT})
@@ -226,7 +239,7 @@ def cuts():
     room = Room({"a": SPOILT})
     room.run(["retry", "a"], 1, working, after={"a": TRUNK, "a.cut": CUT})
     room = Room({"parts/trunk.ledger": SPOILT, "parts/1RA---.ledger": PARTS["parts/1RA---.ledger"]})
-    room.run(["split", "1", "parts", "--filled", "1"], 0, b"trunk 1 parts 2\n", after={"parts/trunk.ledger": TRUNK, "parts/trunk.ledger.cut": CUT, "parts/0RA---.ledger": b"bb-ledger 2 0RA---\n"})
+    room.run(["split", "1", "parts", "--filled", "1"], 0, b"trunk 1 parts 2\n", cut_words("parts/trunk.ledger"), after={"parts/trunk.ledger": TRUNK, "parts/trunk.ledger.cut": CUT, "parts/0RA---.ledger": b"bb-ledger 2 0RA---\n"})
     # given again it leaves the parts as they are
     room.write("parts/0RA---.ledger", PARTS["parts/0RA---.ledger"])
     room.run(["split", "1", "parts", "--filled", "1"], 0, b"trunk 1 parts 2\n")
@@ -271,7 +284,7 @@ def told_at_terminal(room, words, before=()):
 
 
 def reasons():
-    """A terminal is told which file failed and why, and what was cut; a script isn't."""
+    """It is said which file failed and why, at a terminal and elsewhere."""
     try:
         for end in pty.openpty():
             os.close(end)
@@ -288,13 +301,13 @@ def reasons():
         (["run", "1", "--ledger", "/dev/full"], b"refused 604\n/dev/full: No space left on device (os error 28)\n"),
         (["carry", "b", "no/folder"], b"refused 604\nno/folder.new: No such file or directory (os error 2)\n"),
         (["run", "1", "--ledger", "no/folder"], b"refused 604\nno/folder: No such file or directory (os error 2)\n"),
-        (["retry", "."], b"refused 604\n.: Is a directory (os error 21)\n"),
+        (["retry", "."], b"refused 604\n.: Is a directory (os error 21)\n.: it is a folder: bb join . --ledger NEW writes one ledger of it\n"),
         (["retry", "c"], b"refused 604\nc.cut: invalid input parameter\n"),
     ):
         ran, shown = told_at_terminal(room, words)
         if shown != told or ran.returncode != 4 or ran.stdout != b"":
             sys.exit(f"losses: {words} at a terminal: {shown!r}, {ran!r}, and not {told!r}")
-        room.run(words, 4, faults=told.split(b"\n")[0] + b"\n")
+        room.run(words, 4, faults=told)
     with open(room.at("b"), "ab") as held:
         fcntl.flock(held, fcntl.LOCK_EX)
         for words in (["retry", "b"], ["coord", "1", "--ledger", "b"], ["mend", "a", "b"]):

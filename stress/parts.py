@@ -150,7 +150,8 @@ def compare_settle(rng, texts, folder, counts):
         if line.split(b" ")[0] != first or answer(line) is None or ledger.board.take(line, ledger.version) is not None:
             return f"settle of {texts[name]!r}: {line!r} where {first!r} is open"
     shown = list(ledger.board.shown.values())
-    due = (f"settled {len(lines) - 1} holdouts {shown.count('undecided')}\n", "", 0)
+    said = f"{path}: {len(cut)} bytes were cut off, and are kept in {path}.cut\n" if cut else ""
+    due = (f"settled {len(lines) - 1} holdouts {shown.count('undecided')}\n", said, 0)
     counts["settle: lines added" if len(lines) > 1 else "settle: nothing open"] += 1
     texts[name] = after
     return None if told == due and not ledger.board.open and lines[-1] == b"" else f"settle of {texts[name]!r}: {told!r}, and not {due!r}"

@@ -3,8 +3,10 @@
 
 README's first steps (packaging/first_steps); the help of each command that README's table has, long and short; a list as people
 keep it, with CR LF, comments, CSV, links, blank and doubled lines, through `bb tables`, `bb decide --hard` and `bb check`, each of
-its lines accounted for; a list by several processes; answers of which only the beginning is read; wrong command lines; a file given
-where lines are read, and lines where a file is; trees in parts by the scripts of contrib/, from another folder, with too little
+its lines accounted for; a list by several processes; what can't be read, is compressed or was cut, which is named, at a terminal and elsewhere; tables and records as arguments and
+in files, and why a line is refused; a worker whose coordinator isn't there, and a coordinator and workers of which some are
+killed; answers of which only the beginning is read; wrong command lines; a file given where lines are read, and lines where a
+file is; trees in parts by the scripts of contrib/, from another folder, with too little
 disk, with a part that can't be settled, as they are packaged, and beside the plain judge that README names; what bash completes,
 and the Debian package, which are made of the kept program where bash and dpkg-deb are there. What has to come is from README,
 docs/FORMATS.md, docs/TOUR.md and docs/FIVE.md. Prints what differs, and how much was tried; ends with 1 where anything differs.
@@ -15,6 +17,7 @@ import shutil
 import subprocess
 import sys
 import tempfile
+import tty
 
 TOP = os.path.dirname(os.path.dirname(os.path.abspath(__file__)))
 sys.path.insert(0, os.path.join(TOP, "bench"))
@@ -85,7 +88,10 @@ WRONG = [
     ("work --id 4294967233", "0..=4294967232"),
     ("work --tries 0", "1..=1000000"),
     ("run 3 --far 17", "0..=16"),
-    ("decide --steps 1e6", "1e6"),
+    ("decide --steps 1e9", "1..=100000000"),
+    ("decide --steps 1__000", "1__000"),
+    ("decide --input tables.txt 1RB---", "--input"),
+    ("decide tables.txt", "--input"),
     ("decide --steps 1,000", "1,000"),
     ("decide --known -", "--known"),
     ("decide --gram 9", "0..=8"),
@@ -121,6 +127,28 @@ class Tries:
         given = given if isinstance(given, bytes) else given.encode()
         done = subprocess.run(["sh", "-c", command], cwd=self.here, env=self.environment, input=given, capture_output=True, check=False)
         return done.returncode, done.stdout.decode(), done.stderr.decode()
+
+    def at_terminal(self, command, given=""):
+        """What it makes of it where standard error is a terminal, and what that shows."""
+        self.count += 1
+        screen, terminal = os.openpty()
+        tty.setraw(terminal)
+        with subprocess.Popen(["sh", "-c", command], cwd=self.here, env=self.environment, stdin=subprocess.PIPE, stdout=subprocess.PIPE, stderr=terminal) as begun:
+            os.close(terminal)
+            said = begun.communicate(given.encode())[0].decode()
+        shown = b""
+        # A terminal that nobody holds any more is read as an error, behind all that it showed.
+        while piece := self.piece(screen):
+            shown += piece
+        os.close(screen)
+        return begun.returncode, said, shown.decode()
+
+    @staticmethod
+    def piece(screen):
+        try:
+            return os.read(screen, 4096)
+        except OSError:
+            return b""
 
     def expect(self, holds, text):
         if not holds:
@@ -182,7 +210,8 @@ def lists(tries):
     # Without `bb tables` no line is a table alone, and each has its answer all the same.
     status, said, faults = tries.run("bb decide --hard", text)
     refused = sum(line.startswith("refused 301 ") for line in said.splitlines())
-    tries.expect((status, refused, faults) == (1, len(LIST), ""), f"bb decide --hard of the whole list: {status}, {refused} refused, {faults!r}")
+    told = "standard input: its first line ends in CR LF: tr -d '\\r' < FILE | bb decide\n"
+    tries.expect((status, refused, faults) == (1, len(LIST), told), f"bb decide --hard of the whole list: {status}, {refused} refused, {faults!r}")
 
 
 def by_several(tries):
@@ -218,7 +247,7 @@ def beginnings(tries):
         _, said, faults = tries.run(f"{command} | head -n 1")
         tries.expect(said.rstrip("\n").lower() == first.lower(), f"{command} | head -n 1: {said!r}")
         # A stream that fails is said, as FORMATS has it, and nothing else.
-        tries.expect(faults in ("", "refused 603\n") or faults.startswith("passed over: "), f"{command} | head -n 1: {faults!r}")
+        tries.expect(faults in ("", "refused 603\nstandard output: Broken pipe (os error 32)\n") or faults.startswith("passed over: "), f"{command} | head -n 1: {faults!r}")
 
 
 def wrong_lines(tries):
@@ -241,6 +270,112 @@ def mixed_up(tries):
         status, said, faults = tries.run(f"bb {name} < tables.txt")
         tries.expect((status, said) == (2, ""), f"bb {name} < FILE: {status}, {said!r}")
         tries.expect(re.search(r"<(FILE|PATH|IN)>", faults), f"bb {name} < FILE: doesn't say that a file is to be named: {faults!r}")
+
+
+# What is said of what can't be read or is cut: the file's name and the reason, wherever standard error goes.
+NAMED = [
+    ("bb report nosuch", 4, "refused 605\nnosuch: No such file or directory (os error 2)\n"),
+    ("bb look nosuch < tables.txt", 4, "refused 605\nnosuch: No such file or directory (os error 2)\n"),
+    ("bb page nosuch", 4, "refused 605\nnosuch: No such file or directory (os error 2)\n"),
+    ("bb settle nosuch --far 3", 4, "refused 604\nnosuch: No such file or directory (os error 2)\n"),
+    ("bb retry nosuch", 4, "refused 604\nnosuch: No such file or directory (os error 2)\n"),
+    ("bb mend nosuch new", 4, "refused 605\nnosuch: No such file or directory (os error 2)\n"),
+    ("bb join nosuch", 4, "refused 605\nnosuch/trunk.ledger: No such file or directory (os error 2)\n"),
+    ("bb decide --known nosuch < tables.txt", 4, "refused 605\nnosuch: No such file or directory (os error 2)\n"),
+    ("bb decide < tables.txt > /dev/full", 4, "refused 603\nstandard output: No space left on device (os error 28)\n"),
+    ("bb report folder", 4, "refused 605\nfolder: Is a directory (os error 21)\nfolder: it is a folder: bb join folder\n"),
+]
+# What the specification leaves no room for comes with --why, and at a terminal.
+ASKED = [
+    ("bb report packed.xz", "packed.xz: it is compressed by xz: xz -dc packed.xz | bb report -\n"),
+    ("bb report returns", "returns: its first line ends in CR LF: tr -d '\\r' < returns | bb report -\n"),
+    ("bb look three < tables.txt", "line 2: "),
+    ("bb show < tables.txt", "line 2: "),
+    ("bb draw < tables.txt", "line 2: "),
+    ("bb decide < tables.txt", "line 2: "),
+]
+
+
+def named(tries):
+    """What can't be read, what is compressed and what is cut is named, off a terminal."""
+    tries.write("tables.txt", "1RB1LB_1LA---\n1rb1lb_1la---\n")
+    tries.write("returns", "bb-ledger 2 ------\r\n------ H 1 1\r\n")
+    shutil.copy(os.path.join(TOP, "examples", "three-states.ledger"), os.path.join(tries.here, "three"))
+    with open(os.path.join(tries.here, "packed.xz"), "wb") as file:
+        file.write(b"\xfd7zXZ\0" + b"\0" * 26)
+    os.mkdir(os.path.join(tries.here, "folder"))
+    for command, wanted, told in NAMED:
+        status, _, faults = tries.run(command)
+        tries.expect((status, faults) == (wanted, told), f"{command}: {status}, {faults!r}")
+        ended, _, shown = tries.at_terminal(command)
+        tries.expect((ended, shown) == (wanted, told), f"{command} at a terminal: {ended}, {shown!r}")
+    for command, told in ASKED:
+        _, said, faults = tries.run(command)
+        tries.expect(told not in faults, f"{command}: says more than it may: {faults!r}")
+        words = command.replace(" <", " --why <") if " <" in command else f"{command} --why"
+        _, again, faults = tries.run(words)
+        tries.expect(told in faults and again == said, f"{words}: {faults!r}")
+    for command, told in ASKED[:2]:
+        _, _, shown = tries.at_terminal(command)
+        tries.expect(told in shown, f"{command} at a terminal: {shown!r}")
+    with open(os.path.join(tries.here, "three"), "r+b") as file:
+        text = file.read()
+        place = text.index(b"\n", len(text) // 2) + 1
+        file.seek(place)
+        file.write(b"x")
+    status, _, faults = tries.run("bb settle three --far 3")
+    told = f"three: {len(text) - place} bytes were cut off, and are kept in three.cut\n"
+    tries.expect((status, faults) == (0, told), f"bb settle of a damaged ledger: {status}, {faults!r}")
+    tries.run("rm three three.cut")
+
+
+# Lines as arguments, in a file and on standard input; and what has to come, with words on standard error.
+GIVEN = [
+    ("bb decide 1RB1LB_1LA--- 0RA---", 0, "1RB1LB_1LA--- H 6 4\n0RA--- T 0 1 R\n", ""),
+    ("bb check '1RB1LB_1LA--- H 6 4'", 0, "1RB1LB_1LA--- halts 6 ones 4\n", ""),
+    ("bb decide --input kept --lenient", 0, "1RB1LB_1LA--- H 6 4\n0RA--- T 0 1 R\n", ""),
+    ("bb decide --lenient < kept", 0, "1RB1LB_1LA--- H 6 4\n0RA--- T 0 1 R\n", ""),
+    ("bb decide --steps 1_000 --input tables.txt", 1, "1RB1LB_1LA--- H 6 4\nrefused 301 104 1\n", ""),
+    ("bb decide --steps 1e3 --why < tables.txt", 1, "1RB1LB_1LA--- H 6 4\nrefused 301 104 1\n", "line 2: its letters are in lower case\n"),
+    ("echo 1RB2LA1RA_2LA1LB--- | bb decide --why", 1, "refused 301 101\n", "line 1: it is like a table of 3 symbols, and bb's have 2\n"),
+    ("echo 1RB1LB_1LA--- H 6 3 | bb check --why", 1, "refused 201\n", "line 1: it halts after 6 steps with 4 ones\n"),
+    ("bb decide < packed.xz", 4, "", "refused 603\nstandard input: it is compressed by xz: xz -dc FILE | bb decide\n"),
+    ("bb decide < returns", 1, "refused 301 101\nrefused 301 102 6\n", "standard input: its first line ends in CR LF: tr -d '\\r' < FILE | bb decide\n"),
+]
+# A worker whose coordinator isn't there, and addresses that are none.
+ALONE = [
+    ("bb work --connect 127.0.0.1:1 --tries 1", 4, "127.0.0.1:1: "),
+    ("bb work --connect 127.0.0.1:1 --tries 2", 4, "; trying again in 1 s"),
+    ("bb work --connect 127.0.0.1:1 --known nosuch", 4, "refused 605\nnosuch: No such file or directory (os error 2)\n"),
+    ("bb work --connect noport --tries 1", 4, "noport: "),
+    ("bb coord 2 --listen 80000", 4, "80000: "),
+    ("bb coord 2 --listen 0.0.0.0:7007", 2, "refused 607: other computers can reach that address"),
+]
+
+
+def given(tries):
+    """Tables and records as arguments and in files, and why lines are refused."""
+    tries.write("kept", "# mine\r\n\r\n1RB1LB_1LA---\r\n  0RA---\r\n")
+    for command, wanted, answers, told in GIVEN:
+        status, said, faults = tries.run(command)
+        tries.expect((status, said, faults) == (wanted, answers, told), f"{command}: {status}, {said!r}, {faults!r}")
+    tables = os.path.join(TOP, "examples", "known.txt")
+    _, said, _ = tries.run(f"bb tables < {tables} | bb decide --far 3 | bb explain")
+    tries.expect("The first automaton (state: next on 0, next on 1):" in said, "bb explain shows no automaton")
+    tries.expect("words" in said.lower(), "bb explain shows no words")
+
+
+def cluster(tries):
+    """What a worker says whose coordinator isn't there; and a coordinator and workers of which some are killed."""
+    for command, wanted, told in ALONE:
+        status, _, faults = tries.run(command)
+        tries.expect(status == wanted and told in faults, f"{command}: {status}, {faults!r}")
+    _, due, _ = tries.run("bb run 3 --hard")
+    begin = "bb coord 3 --ledger coordinated --listen ./socket"
+    work = "bb work --connect ./socket --hard --tries 3"
+    tries.run(f"{begin} > /dev/null & c=$!; sleep 0.3; {work} --id 1 --ids 1 & w=$!; sleep 0.2; kill -9 $w $c; wait")
+    status, said, faults = tries.run(f"{begin} --era 2 & c=$!; sleep 0.3; {work} --id 7 --ids 2 > /dev/null; wait $c")
+    tries.expect((status, said) == (0, due), f"a coordinator that goes on: {status}, {said!r}, {faults!r}")
 
 
 # What `bb join` has to say of two states.
@@ -356,6 +491,9 @@ def main():
         by_several(tries)
         beginnings(tries)
         mixed_up(tries)
+        named(tries)
+        given(tries)
+        cluster(tries)
         trees(tries, program)
         packages(tries, program)
     for text in tries.found:

@@ -56,11 +56,14 @@ fn has_line_of(text: &[u8], table: &[u8]) -> bool {
     false
 }
 
+// What is said where sockets fail.
+const SOCKETS_FAILED: &[u8] = b"refused 603\n127.0.0.1: other error\n";
+
 /// Of a step whose sockets failed: it says so, and nothing else.
 pub fn cut_off_differs(alloc: Global, found: &Found) -> Result<Option<Difference>, NoMemory> {
-    if found.faults.as_slice() != b"refused 603\n".as_slice() {
+    if found.faults.as_slice() != SOCKETS_FAILED {
         let name = "standard error";
-        return Ok(Some(Difference::of(alloc, name, b"refused 603\n", &found.faults)?));
+        return Ok(Some(Difference::of(alloc, name, SOCKETS_FAILED, &found.faults)?));
     }
     if !found.answers.is_empty() {
         let name = "standard output";

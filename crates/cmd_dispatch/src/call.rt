@@ -1,23 +1,19 @@
-// A command that is carried out, with all that it meets.
-use files::{Disk, OnDisk};
+// A command that is carried out, with what it meets beside files and streams.
 use find_search::KnownFile;
-use std::alloc::Global;
+use std::alloc::{AllocError as NoMemory, Global};
 
-// What a command meets: the system, its input, and where its answers and faults go.
+// Memory, the system, and what is known before a search.
 #[derive(Drop)]
-pub(crate) struct Call<'a, S, R, W, E> {
+pub(crate) struct Call<'a, S> {
     pub alloc: Global,
     pub system: &'a S,
-    // what is known before a search
     pub known: Option<&'a KnownFile<'a>>,
-    pub input: &'a mut R,
-    pub answers: &'a mut W,
-    pub faults: &'a mut E,
 }
 
-impl<'a, S: Disk, R, W, E> Call<'a, S, R, W, E> {
-    // The files of the system.
-    pub fn files(&self) -> OnDisk<'a, S> {
-        OnDisk::of(self.alloc, self.system)
+impl<'a, S> Clone for Call<'a, S> {
+    fn clone(&self) -> Result<Call<'a, S>, NoMemory> {
+        Ok(*self)
     }
 }
+
+impl<'a, S> Copy for Call<'a, S> {}

@@ -1,34 +1,44 @@
 // `bb split`, `bb settle` and `bb join`.
+ghost use Rattle.cmd_ledgers.specs.Retry.{AtSomeTime};
 ghost use Rattle.cmd_options.specs.Ranges.{IsSplitting};
+ghost use Rattle.cmd_dispatch.specs.Ends.{Always, OnceKept, input_of, output_of};
+ghost use Rattle.cmd_dispatch.specs.Ledgers.{JoinsAsked, JoinsFolder, JoinsRead, LooksUp, Settles, Splits};
 
 use crate::call::Call;
 use crate::late::Late;
 use crate::ledgers::STANDARD_INPUT;
 use crate::own_line::OwnLine;
+use cert::{Decider, Finders};
 use cmd_json::LinesOrJson;
 use cmd_options::{Ended, Joining, LedgerSettling, Looking, Outcome, Splitting};
 use cmd_parts::{cmd_join, cmd_join_stream, cmd_split, look_at, settle_ledger_at};
-use files::Disk;
-use find_search::decider_for;
+use files::{Disk, Files};
+use find_search::{AnyFinder, decider_for};
+use std::alloc::Global;
 use std::io::{Read, Write};
 use std::time::Clock;
 use system::{ReadingTold, Telling, TimedProgress, Work};
 
 // `bb split`.
-pub(crate) fn split<S: Disk + Clock, R, W: Write, E: Write>(
-    call: Call<'_, S, R, W, E>,
+pub(crate) fn split<S: Disk + Clock, H: Files, W: Write, E: Write>(
+    call: Call<'_, S>,
     splitting: &Splitting<'_>,
+    files: &mut H,
+    answers: &mut W,
+    faults: &mut E,
 ) -> Result<Outcome, Ended>
     requires { IsSplitting splitting.now }
+    ensures { OnceKept (Splits (AtSomeTime _ ⟦<Finders<AnyFinder<'static>> as Decider>⟧.answers) H.locks
+        (H.tells_same files.old) splitting.now (H.holds files.old) (H.holds files.new) (output_of
+        (W.contents answers.old) (W.contents answers.new)
+        (E.contents faults.old) (E.contents faults.new))) (H.holds files.old) (H.holds files.new)
+        (output_of (W.contents answers.old) (W.contents answers.new)
+        (E.contents faults.old) (E.contents faults.new)) result }
 {
-    let mut files = call.files();
     let Call {
         alloc,
         system,
         known,
-        answers,
-        faults,
-        ..
     } = call;
     let mut decider = decider_for(alloc, known, &splitting.search)?;
     let telling = Telling::of(splitting.progress, system.tells_terminal());
@@ -37,7 +47,7 @@ pub(crate) fn split<S: Disk + Clock, R, W: Write, E: Write>(
     let outcome = cmd_split(
         alloc,
         splitting,
-        &mut files,
+        files,
         &mut decider,
         &mut progress,
         answers,
@@ -48,68 +58,114 @@ pub(crate) fn split<S: Disk + Clock, R, W: Write, E: Write>(
 }
 
 // `bb settle`; how far it is, is told on `faults` where that is wanted.
-pub(crate) fn settle<S: Disk + Clock, R, W: Write, E: Write>(
-    call: Call<'_, S, R, W, E>,
+pub(crate) fn settle<S: Disk + Clock, H: Files, W: Write, E: Write>(
+    call: Call<'_, S>,
     settling: &LedgerSettling<'_>,
-) -> Result<Outcome, Ended> {
-    let mut decider = decider_for(call.alloc, call.known, &settling.search)?;
-    let mut files = call.files();
-    let (alloc, file, answers) = (call.alloc, settling.file, call.answers);
-    let telling = Telling::of(settling.progress, call.system.tells_terminal());
-    let mut progress = TimedProgress::new(alloc, telling, Work::Tree, call.system, call.faults);
+    files: &mut H,
+    answers: &mut W,
+    faults: &mut E,
+) -> Result<Outcome, Ended>
+    ensures { Settles (AtSomeTime _ ⟦<Finders<AnyFinder<'static>> as Decider>⟧.answers) H.locks
+        (H.tells_same files.old) settling.now (H.holds files.old) (H.holds files.new) (output_of
+        (W.contents answers.old) (W.contents answers.new)
+        (E.contents faults.old) (E.contents faults.new)) result }
+{
+    let Call {
+        alloc,
+        system,
+        known,
+    } = call;
+    let mut decider = decider_for(alloc, known, &settling.search)?;
+    let telling = Telling::of(settling.progress, system.tells_terminal());
+    let mut progress = TimedProgress::new(alloc, telling, Work::Tree, system, faults);
     let ended = settle_ledger_at(
         alloc,
-        file,
-        &mut files,
+        settling.file,
+        files,
         &mut decider,
         &mut progress,
         answers,
     );
     progress.end();
-    ended.and(Ok(Outcome::Accepted))
+    ended?;
+    Ok(Outcome::Accepted)
 }
 
 // `bb join`, of a folder or of `input`.
-pub(crate) fn join<S: Disk + ReadingTold, R: Read, W: Write, E: Write>(
-    call: Call<'_, S, R, W, E>,
+pub(crate) fn join<S: Disk + ReadingTold, H: Files, R: Read, W: Write, E: Write>(
+    call: Call<'_, S>,
     joining: &Joining<'_>,
-) -> Result<Outcome, Ended> {
-    let form = LinesOrJson::of(joining.json);
-    let mut files = call.files();
-    let Call {
-        alloc,
-        system,
-        input,
-        answers,
-        faults,
-        ..
-    } = call;
+    files: &mut H,
+    input: &mut R,
+    answers: &mut W,
+    faults: &mut E,
+) -> Result<Outcome, Ended>
+    ensures { Always (JoinsAsked H.locks (H.tells_same files.old) joining.now (H.holds files.old) (H.holds files.new)
+        (input_of (R.remaining input.old) (R.remaining input.new)) (output_of (W.contents answers.old)
+        (W.contents answers.new)
+        (E.contents faults.old) (E.contents faults.new))) result }
+{
     if joining.folder == STANDARD_INPUT {
-        return Ok(cmd_join_stream(alloc, &form, input, answers, faults));
+        return Ok(join_read(call.alloc, joining, input, answers, faults));
     }
+    Ok(join_folder(call, joining, files, answers, faults))
+}
+
+// Of `input`.
+fn join_read<R: Read, W: Write, E: Write>(
+    alloc: Global,
+    joining: &Joining<'_>,
+    input: &mut R,
+    answers: &mut W,
+    faults: &mut E,
+) -> Outcome
+    ensures { JoinsRead joining.now (input_of (R.remaining input.old) (R.remaining input.new))
+        (output_of (W.contents answers.old) (W.contents answers.new) (E.contents faults.old)
+        (E.contents faults.new)) result }
+{
+    let form = LinesOrJson::of(joining.json);
+    cmd_join_stream(alloc, &form, input, answers, faults)
+}
+
+// Of a folder; how far the reading is, is told where that is wanted.
+#[tactic(auto, using(crate::proofs::Joining::joined))]
+fn join_folder<S: Disk + ReadingTold, H: Files, W: Write, E: Write>(
+    call: Call<'_, S>,
+    joining: &Joining<'_>,
+    files: &mut H,
+    answers: &mut W,
+    faults: &mut E,
+) -> Outcome
+    ensures { JoinsFolder H.locks (H.tells_same files.old) joining.now (H.holds files.old) (H.holds files.new)
+        (output_of (W.contents answers.old) (W.contents answers.new)
+        (E.contents faults.old) (E.contents faults.new)) result }
+{
+    let Call { alloc, system, .. } = call;
+    let form = LinesOrJson::of(joining.json);
     let telling = Telling::of(joining.progress, system.tells_terminal());
     system.tell_reading(telling, joining.folder);
     let mut faults = OwnLine {
         system,
         stream: faults,
     };
-    let outcome = cmd_join(alloc, &form, joining, &mut files, answers, &mut faults);
+    let outcome = cmd_join(alloc, &form, joining, files, answers, &mut faults);
     system.end_reading();
-    Ok(outcome)
+    outcome
 }
 
 // `bb look`, in a ledger or in a folder.
-pub(crate) fn look<S: Disk, R: Read, W: Write, E: Write>(
-    call: Call<'_, S, R, W, E>,
+pub(crate) fn look<H: Files, R: Read, W: Write, E: Write>(
+    alloc: Global,
     looking: &Looking<'_>,
-) -> Result<Outcome, Ended> {
-    let files = call.files();
-    let Call {
-        alloc,
-        input,
-        answers,
-        faults,
-        ..
-    } = call;
-    look_at(alloc, looking, &files, input, answers, faults)
+    files: &H,
+    input: &mut R,
+    answers: &mut W,
+    faults: &mut E,
+) -> Result<Outcome, Ended>
+    ensures { LooksUp (H.holds files.now) looking.now looking.now.holdouts (input_of (R.remaining input.old)
+        (R.remaining input.new))
+        (output_of (W.contents answers.old) (W.contents answers.new)
+        (E.contents faults.old) (E.contents faults.new)) result }
+{
+    look_at(alloc, looking, files, input, answers, faults)
 }

@@ -1,4 +1,6 @@
 // What a command says at its end, while it is told how far it is.
+ghost use Rattle.std.specs.Prelude.{◌≡◌, ◌⊎◌};
+
 use cmd_options::{NoMemory, Outcome};
 use std::alloc::Global;
 use std::io::Write;
@@ -20,7 +22,9 @@ impl Late {
     }
 
     // Says it. Where that can't be done, a stream has failed.
-    pub fn say<E: Write>(&self, outcome: Outcome, faults: &mut E) -> Outcome {
+    pub fn say<E: Write>(&self, outcome: Outcome, faults: &mut E) -> Outcome
+        ensures { (result ≡ outcome) ⊎ (result ≡ Outcome.Failed) }
+    {
         if !self.words.is_empty() && faults.write_all(&self.words).is_err() {
             return Outcome::Failed;
         }

@@ -2,19 +2,29 @@
 //! they ask for, with the finders, the files and the ledger that it uses.
 #![tactic(auto)]
 
+mod advice;
 mod call;
 mod executing;
 mod folders;
+mod heard;
+mod kept;
 mod late;
 mod ledgers;
+mod lenient;
+mod likeness;
 mod lines;
+mod manner;
 mod named;
 mod nodes;
 mod obeying;
 mod own_line;
 mod pictures;
+mod refusals;
 mod serving;
+mod shared;
+mod sourced;
 mod texts;
+mod titles;
 mod tokens;
 mod walks;
 mod working;

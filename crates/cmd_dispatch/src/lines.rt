@@ -1,13 +1,16 @@
 // `bb check` and `bb decide`.
+ghost use Rattle.cmd_dispatch.specs.Ends.{input_of, output_of};
+ghost use Rattle.cmd_dispatch.specs.Lines.{DecidesLines, DoesCheck, DoesDecide, answers_counted};
+
 use crate::call::Call;
 use crate::late::Late;
-use cert::Decider;
+use cert::{Decider, Finders};
 use cmd_explain::check_why_for;
 use cmd_json::{check_json_for, decide_json_for};
 use cmd_lines::{Reader, cmd_check, cmd_decide};
 use cmd_options::{Checking, Deciding, Ended, Outcome};
 use files::Disk;
-use find_search::decider_for;
+use find_search::{AnyFinder, decider_for};
 use std::alloc::Global;
 use std::io::{Read, Write};
 use std::time::Clock;
@@ -15,47 +18,51 @@ use system::{CountedDecider, Telling, TimedProgress, Work};
 
 // `bb check`, with `--json` or `--why` or without.
 pub(crate) fn check<S: Disk, R: Read, W: Write, E: Write>(
-    call: Call<'_, S, R, W, E>,
+    call: Call<'_, S>,
     checking: Checking,
-) -> Result<Outcome, Ended> {
-    let Call {
-        alloc,
-        system,
-        input,
-        answers,
-        faults,
-        ..
-    } = call;
+    input: &mut R,
+    answers: &mut W,
+    faults: &mut E,
+) -> Result<Outcome, Ended>
+    ensures { DoesCheck checking.json checking.why (input_of (R.remaining input.old) (R.remaining input.new))
+        (output_of (W.contents answers.old) (W.contents answers.new) (E.contents faults.old)
+        (E.contents faults.new)) result }
+{
     if checking.json {
-        return check_json_for(alloc, checking.why, input, answers);
+        return check_json_for(call.alloc, checking.why, input, answers);
     }
     if checking.why {
-        return check_why_for(alloc, input, answers, faults);
+        return check_why_for(call.alloc, input, answers, faults);
     }
-    Ok(cmd_check(alloc, reader_of(system), input, answers, faults))
+    Ok(cmd_check(call.alloc, reader_of(call.system), input, answers, faults))
 }
 
 // `bb decide`; how many tables are decided is told on `faults`, where that is wanted.
 pub(crate) fn decide<S: Disk + Clock, R: Read, W: Write, E: Write>(
-    call: Call<'_, S, R, W, E>,
+    call: Call<'_, S>,
     deciding: &Deciding<'_>,
-) -> Result<Outcome, Ended> {
+    input: &mut R,
+    answers: &mut W,
+    faults: &mut E,
+) -> Result<Outcome, Ended>
+    ensures { DoesDecide (answers_counted S E ⟦<Finders<AnyFinder<'static>> as Decider>⟧.answers)
+        deciding.now.json (input_of (R.remaining input.old) (R.remaining input.new))
+        (output_of (W.contents answers.old) (W.contents answers.new) (E.contents faults.old)
+        (E.contents faults.new)) result }
+{
     let Call {
         alloc,
         system,
         known,
-        input,
-        answers,
-        faults,
     } = call;
     let mut decider = decider_for(alloc, known, &deciding.search)?;
-    let telling = Telling::of(deciding.progress, system.tells_terminal());
     let mut late = Late::new(alloc)?;
+    let telling = Telling::of(deciding.progress, system.tells_terminal());
     let progress = TimedProgress::new(alloc, telling, Work::Tables, system, &mut *faults);
     let mut told = CountedDecider::new(&mut decider, progress);
     let ended = decided(
         alloc,
-        deciding,
+        deciding.json,
         reader_of(system),
         &mut told,
         input,
@@ -63,23 +70,25 @@ pub(crate) fn decide<S: Disk + Clock, R: Read, W: Write, E: Write>(
         &mut late.words,
     );
     told.end();
-    match ended {
-        Ok(outcome) => Ok(late.say(outcome, faults)),
-        Err(ended) => Err(ended),
-    }
+    let outcome = ended?;
+    Ok(late.say(outcome, faults))
 }
 
-// Decides, with `--json` or without.
+// DecidesLines, with `--json` or without.
 fn decided<D: Decider, R: Read, W: Write, E: Write>(
     alloc: Global,
-    deciding: &Deciding<'_>,
+    json: bool,
     reader: Reader,
     decider: &mut D,
     input: &mut R,
     answers: &mut W,
     faults: &mut E,
-) -> Result<Outcome, Ended> {
-    if deciding.json {
+) -> Result<Outcome, Ended>
+    ensures { DecidesLines D.answers json (input_of (R.remaining input.old) (R.remaining input.new))
+        (output_of (W.contents answers.old) (W.contents answers.new) (E.contents faults.old)
+        (E.contents faults.new)) result }
+{
+    if json {
         return decide_json_for(alloc, decider, input, answers);
     }
     Ok(cmd_decide(alloc, reader, decider, input, answers, faults))

@@ -1,211 +1,257 @@
-// `bb run`, `bb loop`, `bb coord` and `bb work`.
-ghost use Rattle.std.specs.Prelude.{◌≡◌};
+// `bb run`, `bb loop` and `bb coord`.
+ghost use Rattle.std.specs.Prelude.{◌≡◌, IfOk, None, Some, vec_len};
+ghost use Rattle.files.specs.Opened.{held_bytes};
+ghost use Rattle.cmd_json.specs.Forms.{IsText, form_of};
+ghost use Rattle.cmd_ledgers.specs.Settled.{SettlesTree};
+ghost use Rattle.cmd_nodes.specs.Settled.{IsRunBoard};
 ghost use Rattle.cmd_options.specs.Ranges.{IsBeginning, IsSettling};
+ghost use Rattle.cmd_dispatch.specs.Ends.{Once, ToldApart, output_of};
+ghost use Rattle.cmd_dispatch.specs.Trees.{Coordinates, Runs, RunsOver, RunsWith};
 
 use crate::call::Call;
+use crate::kept::{Kept, nothing};
 use crate::late::Late;
 use cert::Finders;
 use cmd_json::LinesOrJson;
 use cmd_nodes::{MaybeLedger, Run, Sockets, by_start, cmd_coord, cmd_loop, cmd_run};
 use cmd_options::{Beginning, Ended, LedgerFile, Outcome, Search, Settling};
-use files::{Disk, DiskLedger, Files, Held, OnDisk, Opened, held_at, ledger_at, lock_ledger};
+use files::{Disk, Files, Opened, Progress};
 use find_search::{AnyFinder, KnownFile, decider_for};
 use lease_core::Worker;
 use std::alloc::Global;
-use std::io::{self, ErrorKind, Read, Write};
+use std::io::{self, Read, Write};
 use std::time::Clock;
 use system::{Telling, TimedProgress, Work};
-use wire::{Node, Out};
+use wire::{LedgerOut, Node, Out};
 
 /// A worker that asks all finders.
 pub(crate) type SearchingWorker<'a> = Worker<Finders<AnyFinder<'a>>>;
 
+// What frames go over between the coordinator of a run and its workers.
+#[derive(Clone, Copy, Debug, PartialEq, Eq)]
+pub(crate) enum Links {
+    // Queues of this process: `bb run`.
+    InProcess,
+    // Connections of this computer: `bb loop`.
+    Sockets,
+}
+
 // `bb coord`.
-pub(crate) fn coord<S: Disk, R: Read, W: Write, E: Write>(
-    call: Call<'_, S, R, W, E>,
+pub(crate) fn coord<H: Files, R: Read, W: Write, E: Write>(
+    alloc: Global,
     beginning: Beginning,
     ledger: Option<LedgerFile<'_>>,
+    files: &mut H,
+    input: &mut R,
+    answers: &mut W,
+    faults: &mut E,
 ) -> Result<Outcome, Ended>
     requires { IsBeginning beginning }
+    ensures { Once (Coordinates (held_bytes H.Reader.remaining) (H.tells_same files.old) (H.holds files.old)
+        (H.holds files.new) beginning ledger.entry
+        (output_of (W.contents answers.old) (W.contents answers.new) (E.contents faults.old) (E.contents faults.new)))
+        (output_of (W.contents answers.old) (W.contents answers.new) (E.contents faults.old) (E.contents faults.new))
+        result }
+{
+    match ledger {
+        Some(file) => coord_kept(alloc, beginning, file, files, input, answers, faults),
+        None => {
+            let held = nothing::<H::Reader>();
+            let mut ledger: MaybeLedger<H::Ledger> = MaybeLedger::Nothing;
+            Ok(cmd_coord(alloc, beginning, held, &mut ledger, input, answers, faults))
+        }
+    }
+}
+
+// With a ledger.
+#[tactic(auto, using(crate::proofs::Keeping::written))]
+fn coord_kept<H: Files, R: Read, W: Write, E: Write>(
+    alloc: Global,
+    beginning: Beginning,
+    file: LedgerFile<'_>,
+    files: &mut H,
+    input: &mut R,
+    answers: &mut W,
+    faults: &mut E,
+) -> Result<Outcome, Ended>
+    requires { IsBeginning beginning }
+    ensures { Once (Coordinates (held_bytes H.Reader.remaining) (H.tells_same files.old) (H.holds files.old)
+        (H.holds files.new) beginning (Some file.entry)
+        (output_of (W.contents answers.old) (W.contents answers.new) (E.contents faults.old) (E.contents faults.new)))
+        (output_of (W.contents answers.old) (W.contents answers.new) (E.contents faults.old) (E.contents faults.new))
+        result }
 {
     let Kept {
         held,
         mut ledger,
         lock: _lock,
-    } = Kept::of(call.files(), ledger)?;
-    let Call {
-        alloc,
-        input,
-        answers,
-        faults,
-        ..
-    } = call;
-    Ok(cmd_coord(alloc, beginning, held, &mut ledger, input, answers, faults))
+    } = Kept::at(files, file)?;
+    let outcome = cmd_coord(alloc, beginning, held, &mut ledger, input, answers, faults);
+    files.close(file.path, ledger);
+    Ok(outcome)
 }
 
-// `bb run`.
-pub(crate) fn run<S: Disk + Clock, R, W: Write, E: Write>(
-    call: Call<'_, S, R, W, E>,
+// `bb run` and `bb loop`.
+#[tactic(auto, using(crate::proofs::Running::with_workers))]
+pub(crate) fn run<S: Disk + Clock + Sockets, H: Files, W: Write, E: Write>(
+    call: Call<'_, S>,
+    links: Links,
     settling: &Settling<'_>,
     ledger: Option<LedgerFile<'_>>,
-) -> Result<Outcome, Ended>
-    requires { IsSettling settling.now }
-{
-    let workers = workers_of(call.alloc, call.known, settling)?;
-    let kept = Kept::of(call.files(), ledger)?;
-    let Call {
-        alloc,
-        system,
-        answers,
-        faults,
-        ..
-    } = call;
-    run_kept(alloc, settling, workers, system, kept, answers, faults)
-}
-
-// Settles the tree with some workers, and with a ledger or none.
-fn run_kept<N: Node + Drop, S: Disk + Clock, W: Write, E: Write>(
-    alloc: Global,
-    settling: &Settling<'_>,
-    workers: Vec<N>,
-    system: &S,
-    kept: Kept<'_, S>,
+    files: &mut H,
     answers: &mut W,
     faults: &mut E,
 ) -> Result<Outcome, Ended>
     requires { IsSettling settling.now }
-{
-    let run = Run {
-        settling,
-        form: &LinesOrJson::of(settling.json),
-        workers,
-    };
-    let Kept {
-        held,
-        mut ledger,
-        lock: _lock,
-    } = kept;
-    let mut late = Late::new(alloc)?;
-    let mut progress = progress_of(alloc, settling, system, &mut *faults);
-    let outcome = cmd_run(
-        alloc,
-        run,
-        held,
-        &mut ledger,
-        &mut progress,
-        answers,
-        &mut late.words,
-    );
-    progress.end();
-    Ok(late.say(outcome, faults))
-}
-
-// `bb loop`.
-pub(crate) fn run_over_sockets<S: Disk + Clock + Sockets, R, W: Write, E: Write>(
-    call: Call<'_, S, R, W, E>,
-    settling: &Settling<'_>,
-    ledger: Option<LedgerFile<'_>>,
-) -> Result<Outcome, Ended>
-    requires { IsSettling settling.now }
+    ensures { Once (Runs ⟦<Worker<Finders<AnyFinder<'static>>> as Node>⟧.answers (held_bytes H.Reader.remaining)
+        (H.tells_same files.old) (H.holds files.old) (H.holds files.new) settling.now ledger.entry
+        (output_of (W.contents answers.old) (W.contents answers.new) (E.contents faults.old) (E.contents faults.new)))
+        (output_of (W.contents answers.old) (W.contents answers.new) (E.contents faults.old) (E.contents faults.new))
+        result }
 {
     let workers = workers_of(call.alloc, call.known, settling)?;
-    let kept = Kept::of(call.files(), ledger)?;
-    let Call {
-        alloc,
-        system,
-        answers,
-        faults,
-        ..
-    } = call;
-    loop_kept(alloc, settling, workers, system, kept, answers, faults)
+    let running = Running { settling, links };
+    match ledger {
+        Some(file) => run_kept(call, running, workers, file, files, answers, faults),
+        None => run_alone::<_, _, H, _, _>(call, running, workers, files, answers, faults),
+    }
 }
 
-// Settles the tree with some workers, and with a ledger or none.
-fn loop_kept<N: Node + Drop, S: Disk + Clock + Sockets, W: Write, E: Write>(
-    alloc: Global,
-    settling: &Settling<'_>,
+// How a tree is settled, and over what.
+#[derive(Clone, Copy)]
+struct Running<'a> {
+    settling: &'a Settling<'a>,
+    links: Links,
+}
+
+// With a ledger.
+#[tactic(auto, using(crate::proofs::Running::ran_kept))]
+fn run_kept<N: Node + Drop, S: Disk + Clock + Sockets, H: Files, W: Write, E: Write>(
+    call: Call<'_, S>,
+    running: Running<'_>,
     workers: Vec<N>,
-    system: &S,
-    kept: Kept<'_, S>,
+    file: LedgerFile<'_>,
+    files: &mut H,
     answers: &mut W,
     faults: &mut E,
 ) -> Result<Outcome, Ended>
-    requires { IsSettling settling.now }
+    requires { IsSettling running.settling.now }
+    ensures { Once (RunsWith N.answers (held_bytes H.Reader.remaining) (H.tells_same files.old) (H.holds files.old)
+        (H.holds files.new) running.entry.settling.now workers.items (Some file.entry)
+        (output_of (W.contents answers.old) (W.contents answers.new) (E.contents faults.old) (E.contents faults.new)))
+        (output_of (W.contents answers.old) (W.contents answers.new) (E.contents faults.old) (E.contents faults.new))
+        result }
 {
-    let run = Run {
-        settling,
-        form: &LinesOrJson::of(settling.json),
-        workers,
-    };
     let Kept {
         held,
         mut ledger,
         lock: _lock,
-    } = kept;
-    let mut late = Late::new(alloc)?;
-    let mut progress = progress_of(alloc, settling, system, &mut *faults);
-    let outcome = cmd_loop(
-        alloc,
-        run,
-        system,
-        held,
-        &mut ledger,
-        &mut progress,
-        answers,
-        &mut late.words,
-    );
-    progress.end();
-    Ok(late.say(outcome, faults))
+    } = Kept::at(files, file)?;
+    let outcome = run_over(call, running, workers, held, &mut ledger, answers, faults)?;
+    files.close(file.path, ledger);
+    Ok(outcome)
 }
 
-// How far a tree is, by the system's clock.
-fn progress_of<'a, S: Disk + Clock, E: Write>(
-    alloc: Global,
-    settling: &Settling<'_>,
-    system: &'a S,
-    faults: &'a mut E,
-) -> TimedProgress<'a, S, E> {
+// Without one.
+#[tactic(auto, using(crate::proofs::Running::ran_alone))]
+fn run_alone<N: Node + Drop, S: Disk + Clock + Sockets, H: Files, W: Write, E: Write>(
+    call: Call<'_, S>,
+    running: Running<'_>,
+    workers: Vec<N>,
+    _files: &H,
+    answers: &mut W,
+    faults: &mut E,
+) -> Result<Outcome, Ended>
+    requires { IsSettling running.settling.now }
+    ensures { Once (RunsWith N.answers (held_bytes H.Reader.remaining) (H.tells_same _files.now) (H.holds _files.now)
+        (H.holds _files.now) running.entry.settling.now workers.items None
+        (output_of (W.contents answers.old) (W.contents answers.new) (E.contents faults.old) (E.contents faults.new)))
+        (output_of (W.contents answers.old) (W.contents answers.new) (E.contents faults.old) (E.contents faults.new))
+        result }
+{
+    let held = nothing::<H::Reader>();
+    let mut ledger: MaybeLedger<H::Ledger> = MaybeLedger::Nothing;
+    let outcome = run_over(call, running, workers, held, &mut ledger, answers, faults)?;
+    Ok(outcome)
+}
+
+// Settles the tree with some workers, over what a ledger held.
+fn run_over<
+    N: Node + Drop,
+    S: Disk + Clock + Sockets,
+    F: Read + Drop,
+    L: LedgerOut,
+    W: Write,
+    E: Write,
+>(
+    call: Call<'_, S>,
+    running: Running<'_>,
+    workers: Vec<N>,
+    held: io::Result<Opened<F>>,
+    ledger: &mut L,
+    answers: &mut W,
+    faults: &mut E,
+) -> Result<Outcome, Ended>
+    requires { IsSettling running.settling.now }
+    ensures { Once (RunsOver N.answers F.remaining running.entry.settling.now workers.items held (L.text ledger.old)
+        (L.text ledger.new)
+        (output_of (W.contents answers.old) (W.contents answers.new) (E.contents faults.old) (E.contents faults.new)))
+        (output_of (W.contents answers.old) (W.contents answers.new) (E.contents faults.old) (E.contents faults.new))
+        result }
+{
+    let Call { alloc, system, .. } = call;
+    let settling = running.settling;
+    let mut late = Late::new(alloc)?;
     let telling = Telling::of(settling.progress, system.tells_terminal());
-    TimedProgress::new(alloc, telling, Work::Tree, system, faults)
+    let mut progress = TimedProgress::new(alloc, telling, Work::Tree, system, &mut *faults);
+    let outcome = run_by(
+        call,
+        running,
+        workers,
+        held,
+        ledger,
+        &mut progress,
+        answers,
+        &mut late.words,
+    );
+    progress.end();
+    Ok(late.say(outcome, faults))
 }
 
-// The ledger of a node, locked for as long as it is written, and what it held; or none.
-#[derive(Drop)]
-pub(crate) struct Kept<'a, D: Disk> {
-    pub held: io::Result<Opened<Held<D::Reader>>>,
-    pub ledger: MaybeLedger<DiskLedger<'a, D>>,
-    pub lock: Option<D::Lock>,
-}
-
-impl<'a, D: Disk> Kept<'a, D> {
-    pub fn of(files: OnDisk<'a, D>, file: Option<LedgerFile<'_>>) -> Result<Kept<'a, D>, Ended> {
-        match file {
-            Some(file) => Kept::at(files, file),
-            None => Ok(Kept::nowhere()),
-        }
-    }
-
-    // In a file, which is begun where it isn't there.
-    fn at(mut files: OnDisk<'a, D>, file: LedgerFile<'_>) -> Result<Kept<'a, D>, Ended> {
-        let lock = lock_begun(&mut files, file.path)?;
-        let held = held_at(&files, file.path);
-        let ledger = ledger_at(&mut files, &file)?;
-        Ok(Kept {
-            held,
-            ledger: MaybeLedger::Kept(ledger),
-            lock: Some(lock),
-        })
-    }
-
-    fn nowhere() -> Kept<'a, D> {
-        Kept {
-            held: Ok(Opened {
-                reader: Held::Nothing,
-                length: 0,
-            }),
-            ledger: MaybeLedger::Nothing,
-            lock: None,
-        }
+// Settles it over links of this kind.
+fn run_by<
+    N: Node + Drop,
+    S: Sockets,
+    F: Read + Drop,
+    L: LedgerOut,
+    G: Progress,
+    W: Write,
+    E: Write,
+>(
+    call: Call<'_, S>,
+    running: Running<'_>,
+    workers: Vec<N>,
+    held: io::Result<Opened<F>>,
+    ledger: &mut L,
+    progress: &mut G,
+    answers: &mut W,
+    faults: &mut E,
+) -> Outcome
+    requires { IsSettling running.settling.now }
+    ensures { ToldApart (SettlesTree (IsText (form_of running.entry.settling.now.json))
+        running.entry.settling.now.states (IsRunBoard N.answers running.entry.settling.now workers.items F.remaining
+        held (L.text ledger.old) (L.text ledger.new)) (W.contents answers.old) (W.contents answers.new)) result }
+{
+    let Call { alloc, system, .. } = call;
+    let form = LinesOrJson::of(running.settling.json);
+    let run = Run {
+        settling: running.settling,
+        form: &form,
+        workers,
+    };
+    match running.links {
+        Links::InProcess => cmd_run(alloc, run, held, ledger, progress, answers, faults),
+        Links::Sockets => cmd_loop(alloc, run, system, held, ledger, progress, answers, faults),
     }
 }
 
@@ -214,10 +260,12 @@ fn workers_of<'a>(
     alloc: Global,
     known: Option<&'a KnownFile<'a>>,
     settling: &Settling<'_>,
-) -> Result<Vec<SearchingWorker<'a>>, Ended> {
+) -> Result<Vec<SearchingWorker<'a>>, Ended>
+    ensures { IfOk result (λ workers. vec_len workers ≡ settling.now.workers) }
+{
     let mut workers = Vec::new(alloc);
-    for id in 1..=u32::from(settling.workers) {
-        let (worker, _) = worker_of(alloc, known, &settling.search, id, b"")?;
+    for place in 0..u32::from(settling.workers) {
+        let (worker, _) = worker_of(alloc, known, &settling.search, place + 1, b"")?;
         if workers.push(worker).is_err() {
             return Err(Ended::NoMemory);
         }
@@ -239,15 +287,4 @@ pub(crate) fn worker_of<'a>(
         Ok(first) => Ok((worker, first)),
         Err(fault) => Err(by_start(fault)),
     }
-}
-
-// Locks a ledger that is begun where it isn't there, so that no two begin it.
-fn lock_begun<H: Files>(files: &mut H, path: &str) -> Result<H::Lock, Ended> {
-    if let Err(fault) = files.open(path)
-        && fault.kind() == ErrorKind::NotFound
-    {
-        // Where it can't be made, that is said when a line is to be written.
-        let _ = files.create(path);
-    }
-    lock_ledger(files, path)
 }

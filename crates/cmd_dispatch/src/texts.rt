@@ -1,24 +1,27 @@
 // `bb explain`, `bb show` and `bb tables`.
-use crate::call::Call;
+ghost use Rattle.cmd_dispatch.specs.Ends.{input_of, output_of};
+ghost use Rattle.cmd_dispatch.specs.Lines.{DoesExplain, DoesList, DoesShow};
+
 use cmd_explain::cmd_explain;
 use cmd_json::explain_json_for;
 use cmd_lines::cmd_tables;
 use cmd_options::{Ended, Listing, Outcome, Showing};
 use cmd_show::cmd_show;
+use std::alloc::Global;
 use std::io::{Read, Write};
 
 // `bb explain`, with `--json` or without.
-pub(crate) fn explain<S, R: Read, W: Write, E: Write>(
-    call: Call<'_, S, R, W, E>,
+pub(crate) fn explain<R: Read, W: Write, E: Write>(
+    alloc: Global,
     json: bool,
-) -> Result<Outcome, Ended> {
-    let Call {
-        alloc,
-        input,
-        answers,
-        faults,
-        ..
-    } = call;
+    input: &mut R,
+    answers: &mut W,
+    faults: &mut E,
+) -> Result<Outcome, Ended>
+    ensures { DoesExplain json (input_of (R.remaining input.old) (R.remaining input.new))
+        (output_of (W.contents answers.old) (W.contents answers.new) (E.contents faults.old)
+        (E.contents faults.new)) result }
+{
     if json {
         return explain_json_for(alloc, input, answers);
     }
@@ -26,31 +29,31 @@ pub(crate) fn explain<S, R: Read, W: Write, E: Write>(
 }
 
 // `bb show`.
-pub(crate) fn show<S, R: Read, W: Write, E: Write>(
-    call: Call<'_, S, R, W, E>,
+pub(crate) fn show<R: Read, W: Write, E: Write>(
+    alloc: Global,
     showing: &Showing,
-) -> Result<Outcome, Ended> {
-    let Call {
-        alloc,
-        input,
-        answers,
-        faults,
-        ..
-    } = call;
+    input: &mut R,
+    answers: &mut W,
+    faults: &mut E,
+) -> Result<Outcome, Ended>
+    ensures { DoesShow showing.now (input_of (R.remaining input.old) (R.remaining input.new))
+        (output_of (W.contents answers.old) (W.contents answers.new) (E.contents faults.old)
+        (E.contents faults.new)) result }
+{
     Ok(cmd_show(alloc, showing, input, answers, faults))
 }
 
 // `bb tables`.
-pub(crate) fn tables<S, R: Read, W: Write, E: Write>(
-    call: Call<'_, S, R, W, E>,
+pub(crate) fn tables<R: Read, W: Write, E: Write>(
+    alloc: Global,
     listing: &Listing,
-) -> Result<Outcome, Ended> {
-    let Call {
-        alloc,
-        input,
-        answers,
-        faults,
-        ..
-    } = call;
+    input: &mut R,
+    answers: &mut W,
+    faults: &mut E,
+) -> Result<Outcome, Ended>
+    ensures { DoesList listing.now (input_of (R.remaining input.old) (R.remaining input.new))
+        (output_of (W.contents answers.old) (W.contents answers.new) (E.contents faults.old)
+        (E.contents faults.new)) result }
+{
     Ok(cmd_tables(alloc, listing, input, answers, faults))
 }

@@ -1,4 +1,6 @@
 // The token that a coordinator and its workers have.
+ghost use Rattle.std.specs.Prelude.{◌≡◌, IfOk, None};
+
 use cmd_nodes::Network;
 use cmd_options::{Ended, ended_by};
 
@@ -7,7 +9,9 @@ const FEWEST_BYTES: usize = 16;
 
 /// The token in a file, without a newline at its end; none where no file is named. `File` where it can't be read, or is too
 /// short.
-pub(crate) fn token_of<H: Network>(host: &H, path: Option<&str>) -> Result<Option<Vec<u8>>, Ended> {
+pub(crate) fn token_of<H: Network>(host: &H, path: Option<&str>) -> Result<Option<Vec<u8>>, Ended>
+    ensures { path.entry ≡ None → IfOk result (λ token. token ≡ None) }
+{
     let Some(path) = path else {
         return Ok(None);
     };

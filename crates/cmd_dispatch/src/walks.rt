@@ -1,14 +1,19 @@
 // `bb walk`.
+ghost use Rattle.std.specs.Prelude.{◌≡◌, ◌⊎◌, IfOk, OnErr};
+ghost use Rattle.cmd_json.specs.Forms.{IsText, form_of};
 ghost use Rattle.cmd_options.specs.Ranges.{IsWalking};
+ghost use Rattle.cmd_parts.specs.Walking.{AreAnswers, WalksTree};
+ghost use Rattle.cmd_dispatch.specs.Ends.{Once, OnceSaved, ToldApart, output_of};
+ghost use Rattle.cmd_dispatch.specs.Trees.{IsRootOf, WalksBy};
 
 use crate::call::Call;
 use crate::late::Late;
-use cert::Decider;
+use cert::{Decider, Finders};
 use cmd_json::LinesOrJson;
 use cmd_options::{Durability, Ended, LedgerFile, Outcome, Saving, Walking, ended_by};
 use cmd_parts::cmd_walk;
 use files::{Disk, Files, ledger_at, lock_ledger};
-use find_search::{SavingDecider, decider_for};
+use find_search::{AnyFinder, SavingDecider, decider_for};
 use machine_text::Table;
 use std::alloc::Global;
 use std::io::Write;
@@ -17,37 +22,89 @@ use system::{Telling, TimedProgress, Work};
 use tnf::root;
 
 // `bb walk`.
-pub(crate) fn walk<S: Disk + Clock, R, W: Write, E: Write>(
-    call: Call<'_, S, R, W, E>,
+#[tactic(auto, using(crate::proofs::Saving::found_or_saved))]
+pub(crate) fn walk<S: Disk + Clock, H: Files, W: Write, E: Write>(
+    call: Call<'_, S>,
     walking: &Walking<'_>,
+    files: &mut H,
+    answers: &mut W,
+    faults: &mut E,
 ) -> Result<Outcome, Ended>
     requires { IsWalking walking.now }
+    ensures { OnceSaved (λ o. WalksBy ⟦<Finders<AnyFinder<'static>> as Decider>⟧.answers walking.now
+        (output_of (W.contents answers.old)
+        (W.contents answers.new) (E.contents faults.old) (E.contents faults.new)) o
+        ⊎ WalksBy ⟦<SavingDecider<Finders<AnyFinder<'static>>, H::Ledger> as Decider>⟧.answers walking.now
+        (output_of (W.contents answers.old)
+        (W.contents answers.new) (E.contents faults.old) (E.contents faults.new)) o)
+        (output_of (W.contents answers.old)
+        (W.contents answers.new) (E.contents faults.old) (E.contents faults.new)) result }
 {
     let root = root_of(walking)?;
-    let mut files = call.files();
+    match walking.saving {
+        None => walk_found(call, walking, root, answers, faults),
+        Some(saving) => walk_saved(call, walking, saving, root, files, answers, faults),
+    }
+}
+
+// Keeps no record.
+fn walk_found<S: Disk + Clock, W: Write, E: Write>(
+    call: Call<'_, S>,
+    walking: &Walking<'_>,
+    root: Table,
+    answers: &mut W,
+    faults: &mut E,
+) -> Result<Outcome, Ended>
+    requires { IsRootOf walking.now root }
+    ensures { Once (WalksBy ⟦<Finders<AnyFinder<'static>> as Decider>⟧.answers walking.now
+        (output_of (W.contents answers.old)
+        (W.contents answers.new) (E.contents faults.old) (E.contents faults.new)))
+        (output_of (W.contents answers.old)
+        (W.contents answers.new) (E.contents faults.old) (E.contents faults.new)) result }
+{
     let Call {
         alloc,
         system,
         known,
-        answers,
-        faults,
-        ..
     } = call;
     let mut finders = decider_for(alloc, known, &walking.search)?;
-    let Some(Saving { path, dear }) = walking.saving else {
-        let (outcome, late) = walk_by(
-            alloc,
-            walking,
-            root,
-            &mut finders,
-            system,
-            answers,
-            &mut *faults,
-        )?;
-        return Ok(late.say(outcome, faults));
-    };
-    let (_lock, saved) = opened(&mut files, path)?;
-    let mut decider = SavingDecider::new(finders, dear, saved);
+    let (outcome, late) = walk_by(
+        alloc,
+        walking,
+        root,
+        &mut finders,
+        system,
+        answers,
+        &mut *faults,
+    )?;
+    Ok(late.say(outcome, faults))
+}
+
+// Saves the dear ones.
+fn walk_saved<S: Disk + Clock, H: Files, W: Write, E: Write>(
+    call: Call<'_, S>,
+    walking: &Walking<'_>,
+    saving: Saving<'_>,
+    root: Table,
+    files: &mut H,
+    answers: &mut W,
+    faults: &mut E,
+) -> Result<Outcome, Ended>
+    requires { IsRootOf walking.now root }
+    ensures { OnceSaved (WalksBy ⟦<SavingDecider<Finders<AnyFinder<'static>>, H::Ledger> as Decider>⟧.answers
+        walking.now (output_of (W.contents answers.old)
+        (W.contents answers.new) (E.contents faults.old) (E.contents faults.new)))
+        (output_of (W.contents answers.old)
+        (W.contents answers.new) (E.contents faults.old) (E.contents faults.new)) result }
+{
+    let Call {
+        alloc,
+        system,
+        known,
+    } = call;
+    let finders = decider_for(alloc, known, &walking.search)?;
+    let (_lock, saved) = opened(files, saving.path)?;
+    let mut decider = SavingDecider::new(finders, saving.dear, saved);
     let (outcome, late) = walk_by(
         alloc,
         walking,
@@ -86,7 +143,12 @@ fn walk_by<D: Decider, S: Disk + Clock, W: Write, E: Write>(
     system: &S,
     answers: &mut W,
     faults: &mut E,
-) -> Result<(Outcome, Late), Ended> {
+) -> Result<(Outcome, Late), Ended>
+    ensures walks { IfOk result (λ r. ToldApart (WalksTree (IsText (form_of walking.now.json)) root
+        (AreAnswers D D.answers)
+        (W.contents answers.old) (W.contents answers.new)) r.0) }
+    ensures err { OnErr result (W.contents answers.new ≡ W.contents answers.old) }
+{
     let telling = Telling::of(walking.progress, system.tells_terminal());
     let mut late = Late::new(alloc)?;
     let mut progress = TimedProgress::new(alloc, telling, Work::Tree, system, faults);
@@ -106,6 +168,7 @@ fn walk_by<D: Decider, S: Disk + Clock, W: Write, E: Write>(
 // The root of the tree: the table that is asked for, which has so many states, or the empty table.
 fn root_of(walking: &Walking<'_>) -> Result<Table, Ended>
     requires { IsWalking walking.now }
+    ensures { IfOk result (IsRootOf walking.now) }
 {
     let Some(text) = walking.root else {
         return Ok(root(walking.states));

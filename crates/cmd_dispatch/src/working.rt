@@ -1,13 +1,15 @@
 // `bb work`.
 ghost use Rattle.cmd_options.specs.Ranges.{IsWorking};
+ghost use Rattle.cmd_dispatch.specs.Does.{Works};
 
 use crate::call::Call;
-use crate::nodes::{Kept, SearchingWorker, worker_of};
+use crate::kept::{Kept, nothing};
+use crate::nodes::{SearchingWorker, worker_of};
 use crate::tokens::token_of;
 use cmd_ledgers::keep_answer;
 use cmd_nodes::{Destination, MaybeLedger, Network, work_at, work_between};
 use cmd_options::{Ended, LedgerFile, Outcome, Working, ended_by};
-use files::{Disk, DiskLedger, Held, Opened};
+use files::{Disk, Files, Held, Opened};
 use peers::Pool;
 use std::alloc::Global;
 use std::io::{self, Read, Write};
@@ -15,31 +17,29 @@ use std::time::Clock;
 
 // The workers of a process, each with its ledger, and the locks of these.
 #[derive(Drop)]
-struct Workers<'a, 'b, D: Disk> {
-    pool: Pool<SearchingWorker<'b>, MaybeLedger<DiskLedger<'a, D>>>,
-    locks: Vec<D::Lock>,
+struct Workers<'a, H: Files> {
+    pool: Pool<SearchingWorker<'a>, MaybeLedger<H::Ledger>>,
+    locks: Vec<H::Lock>,
 }
 
 // `bb work`.
-pub(crate) fn work<S: Disk + Clock + Network, R: Read, W: Write, E: Write>(
-    call: Call<'_, S, R, W, E>,
+pub(crate) fn work<S: Disk + Clock + Network, H: Files, R: Read, W: Write, E: Write>(
+    call: Call<'_, S>,
     working: &Working<'_>,
+    files: &mut H,
+    input: &mut R,
+    answers: &mut W,
+    faults: &mut E,
 ) -> Result<Outcome, Ended>
     requires { IsWorking working.now }
+    ensures { Works result }
 {
     let token = token_of(call.system, working.token)?;
     let Workers {
         mut pool,
         locks: _locks,
-    } = workers_of(&call, working)?;
-    let Call {
-        alloc,
-        system,
-        input,
-        answers,
-        faults,
-        ..
-    } = call;
+    } = workers_of(call, working, files)?;
+    let Call { alloc, system, .. } = call;
     match working.connect {
         Some(address) => {
             if system.tells_terminal() {
@@ -61,10 +61,11 @@ fn coordinator_at<'a>(address: &'a str, token: &'a Option<Vec<u8>>) -> Destinati
 }
 
 // All workers of the process, with ids that follow one another.
-fn workers_of<'a, S: Disk + Clock, R, W, E>(
-    call: &Call<'a, S, R, W, E>,
+fn workers_of<'a, S: Clock, H: Files>(
+    call: Call<'a, S>,
     working: &Working<'_>,
-) -> Result<Workers<'a, 'a, S>, Ended>
+    files: &mut H,
+) -> Result<Workers<'a, H>, Ended>
     requires { IsWorking working.now }
 {
     let first_id = match working.first_id {
@@ -81,6 +82,7 @@ fn workers_of<'a, S: Disk + Clock, R, W, E>(
             &mut workers,
             call,
             working,
+            files,
             first_id.saturating_add(place),
             path.as_deref(),
         )?;
@@ -89,10 +91,11 @@ fn workers_of<'a, S: Disk + Clock, R, W, E>(
 }
 
 // A worker, started from its ledger, where it has one.
-fn add_worker<'a, S: Disk, R, W, E>(
-    workers: &mut Workers<'a, 'a, S>,
-    call: &Call<'a, S, R, W, E>,
+fn add_worker<'a, S, H: Files>(
+    workers: &mut Workers<'a, H>,
+    call: Call<'a, S>,
     working: &Working<'_>,
+    files: &mut H,
     id: u32,
     path: Option<&str>,
 ) -> Result<(), Ended> {
@@ -100,11 +103,7 @@ fn add_worker<'a, S: Disk, R, W, E>(
         (Some(path), Some(ledger)) => Some(LedgerFile { path, ..ledger }),
         _ => None,
     };
-    let Kept {
-        held,
-        mut ledger,
-        lock,
-    } = Kept::of(call.files(), file)?;
+    let (held, mut ledger, lock) = kept_in(files, file)?;
     let text = text_of(call.alloc, held)?;
     let (worker, first) = worker_of(call.alloc, call.known, &working.search, id, &text)?;
     keep_answer(&first, &mut ledger)?;
@@ -114,6 +113,25 @@ fn add_worker<'a, S: Disk, R, W, E>(
         return Err(Ended::NoMemory);
     }
     Ok(workers.pool.add(worker, ledger)?)
+}
+
+// What the ledger of a worker holds, and the ledger with its lock; or none.
+fn kept_in<H: Files>(
+    files: &mut H,
+    file: Option<LedgerFile<'_>>,
+) -> Result<
+    (
+        io::Result<Opened<Held<H::Reader>>>,
+        MaybeLedger<H::Ledger>,
+        Option<H::Lock>,
+    ),
+    Ended,
+> {
+    let Some(file) = file else {
+        return Ok((nothing::<H::Reader>(), MaybeLedger::Nothing, None));
+    };
+    let Kept { held, ledger, lock } = Kept::at(files, file)?;
+    Ok((held, MaybeLedger::Kept(ledger), Some(lock)))
 }
 
 // All that a ledger holds.

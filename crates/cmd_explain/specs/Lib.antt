@@ -1,3 +1,4 @@
+pub mod Limits
 pub mod Quantity
 pub mod Sides
 pub mod Halting
@@ -12,3 +13,9 @@ pub mod Induction
 pub mod Named
 pub mod Explained
 pub mod Why
+pub mod Lines
+pub mod Transitions
+pub mod ReductionLists
+pub mod CountedLists
+pub mod NgramLists
+pub mod Listed

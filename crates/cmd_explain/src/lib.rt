@@ -2,25 +2,35 @@
 //!
 //! `specs/Explained` is what is said to a line. Each kind of certificates has a module of its own and a file in `specs/`:
 //! the words, and the facts that they tell, which hold of each table of which they are said.
+//!
+//! `specs/Listed` is what the command prints: what is said, and behind it the automata or the words that a certificate
+//! holds (`ReductionLists`, `CountedLists`, `NgramLists`), as lists of cells in columns (`Transitions`, `Lines`, `Limits`).
 #![tactic(auto)]
 
 mod backward_reasoning;
+mod columns;
 mod counted;
+mod counted_lists;
 mod cycling;
 mod explain;
 mod exponents;
 mod halting;
+mod limits;
+mod lists;
 mod named;
+mod ngram_lists;
 mod ngrams;
 mod quantity;
 mod reduction;
+mod reduction_lists;
 mod rules;
 mod scripts;
 mod shifting;
 mod sides;
 mod tapes;
+mod transitions;
 mod why;
 mod words;
 
-pub use explain::{cmd_explain, explain_line};
+pub use explain::{cmd_explain, explain_line, explain_line_in_full};
 pub use why::{check_why_for, why_of};

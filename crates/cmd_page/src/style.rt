@@ -57,7 +57,7 @@ meter::-moz-meter-bar{background:var(--link)}\n\
 .sampled{margin:.25rem 0;font-size:.9rem;color:var(--faint)}\n\
 .figures{display:flex;flex-wrap:wrap;gap:1.5rem 2rem}\n\
 figure{display:flex;flex-wrap:wrap;align-items:start;gap:0 1.5rem;margin:0;min-width:0;max-width:100%}\n\
-figcaption,.sampled{flex:1 1 100%}\n\
+figcaption,.sampled{flex:1 1 100%;order:1}\n\
 figure svg{display:block;max-width:100%;height:auto;margin-bottom:.5rem;border:1px solid var(--line)}\n\
 .transitions{width:auto;margin:.5rem 0;font-family:ui-monospace,monospace;font-size:.9rem}\n\
 .transitions tr>*{padding:.1rem .7rem;text-align:center;border:1px solid var(--line)}\n\

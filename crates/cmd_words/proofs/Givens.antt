@@ -1,17 +1,11 @@
 -- What the getters of clap's matches give.
-use Rattle.std.proofs.Common.{◌≡◌, ℕ, true, List, Option, Some, None, Result, Ok, refl, ap, ◌∙◌, subst}
+use Rattle.std.proofs.Common.{◌≡◌, ℕ, true, List, Option, Some, None, refl, ap, ◌∙◌}
 use Rattle.std.specs.Borrow.{Bor}
 use Rattle.std.specs.Prelude.{is_none, option_map}
-use Rattle.clap.specs.Words.{App, HasMatchesOf, ReadsOne, is_simple, subcommand_of, subcommand_rows_of}
+use Rattle.clap.specs.Words.{App, HasMatchesOf, is_simple, subcommand_of, subcommand_rows_of}
 use Rattle.clap.specs.declared.parser.matches.ArgMatches.{ArgMatches}
 use Rattle.clap.proofs.OnLiterals.{clap_on_literals}
 use Rattle.cmd_words.specs.Grammar.{grammar}
-
-pub number_read : {E : Type 0} (gives : List ℕ → Result ℕ E → Type 0) (text : Option (List ℕ)) (read : Option ℕ) (n : ℕ)
-    → (text ≡ None → read ≡ None) → ((t : List ℕ) → text ≡ Some t → ReadsOne gives t read) → read ≡ Some n
-    → (t : List ℕ) × (text ≡ Some t) × gives t (Ok n)
-number_read gives None read n none value is = let nothing = none refl in cc
-number_read gives (Some t) read n none value is = (t, refl, subst (λ r. ReadsOne gives t r) is (value t refl))
 
 pub none_text : (given : Option (Bor (List ℕ))) → is_none given ≡ true → option_map (λ text. text.now) given ≡ None
 none_text None none = refl

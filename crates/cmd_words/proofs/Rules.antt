@@ -4,7 +4,7 @@ use Rattle.std.proofs.lemmas.List.{length-map}
 use Rattle.clap.specs.Walk.{is_empty, is_free_arg}
 use Rattle.std.specs.Borrow.{Bor}
 use Rattle.clap.specs.Words.{AddsConflicts, AddsRequiredUnless, AddsRequirements, Rule, new_rule, rule_of}
-use Rattle.clap.specs.declared.builder.action.ArgAction.TheVariants.{SetTrue}
+use Rattle.clap.specs.declared.builder.action.ArgAction.TheVariants.{Append, SetTrue}
 use Rattle.clap.specs.declared.builder.arg.Arg.{Arg}
 use Rattle.clap.specs.declared.builder.arg.ArgPredicate.{ArgPredicate}
 use Rattle.cmd_words.specs.inside.{valued_rule}
@@ -82,6 +82,26 @@ text_by base optional unless last rule flag base_is rule_free optional_is unless
     ∙ (ap (λ (r : Rule). record r { required = false; is_free = is_free_arg (record base { required = false; r_unless = unless.r_unless; conflicts = last.conflicts }) }) base_is
     ∙ ap (λ (free : Bool). record rule { required = false; is_free = free })
     (bound base.exclusive _ (is_empty base.conflicts.items) (is_empty base.needs.items) (is_empty last.conflicts.items) _ free conflicts_is))
+
+-- any number of texts, in whose place an option may stand
+pub texts_by : (base optional acted last : Arg) (rule : Rule) (option : Bor (List ℕ))
+    → rule_of base ≡ rule → rule.is_free ≡ true → optional ≡ record base { required = false }
+    → acted ≡ record optional { action = Some Append } → AddsConflicts acted last (option ∷ [])
+    → rule_of last ≡ record rule { required = false; action = Some Append; is_free = false }
+texts_by base optional acted last rule option base_is rule_free optional_is acted_is last_is =
+    let to_acted : acted ≡ record base { required = false; action = Some Append } = acted_is ∙ ap (λ (a : Arg). record a { action = Some Append }) optional_is in
+    let to_last : last ≡ record base { required = false; action = Some Append; conflicts = last.conflicts } = last_is.0 ∙ ap (λ (a : Arg). record a { conflicts = last.conflicts }) to_acted in
+    let free : is_free_arg base ≡ true = ap (λ (r : Rule). r.is_free) base_is ∙ rule_free in
+    let conflicts_is : is_empty last.conflicts.items ≡ false = ap is_empty last_is.1 ∙ not_empty acted.conflicts.items option in
+    ap rule_of to_last
+    ∙ (ap (λ (r : Rule). record r { required = false; action = Some Append; is_free = is_free_arg (record base { required = false; action = Some Append; conflicts = last.conflicts }) }) base_is
+    ∙ ap (λ (free : Bool). record rule { required = false; action = Some Append; is_free = free })
+    (bound base.exclusive _ (is_empty base.conflicts.items) (is_empty base.needs.items) (is_empty last.conflicts.items) _ free conflicts_is))
+
+-- a number without a default
+pub no_default : (name : List ℕ) (value : Option (Bor (List ℕ))) → valued_rule name value ≡ record (valued_rule name value) { defaults = [] }
+no_default name None = refl
+no_default name (Some v) = refl
 
 pub text_free : (name : List ℕ) (value : Option (Bor (List ℕ))) → (valued_rule name value).is_free ≡ true
 text_free name None = refl

@@ -1,6 +1,6 @@
 -- What the words of a command line ask for: of each command, each option is what clap's matches give under its name.
-use Rattle.std.specs.Prelude.{◌≡◌, ℕ, List, [], Option, Some, None, codes, unwrap_or}
-use Rattle.clap.specs.Words.{Row, first_of, subcommand_of}
+use Rattle.std.specs.Prelude.{◌≡◌, ℕ, Bool, ⊤, List, [], map, Option, Some, None, codes, unwrap_or}
+use Rattle.clap.specs.Words.{Row, all_of, first_of, subcommand_of}
 use Rattle.cmd_options.specs.declared.options.Options.{Options}
 use Rattle.cmd_options.specs.declared.options.Options.TheVariants.{Check, Decide, Explain, Show, Tables, Coord, CoordPart, Work, Run, Loop, Retry, Merge, Carry, Mend, Split, Settle, Walk, Join, Look, Draw, Page, Report}
 use Rattle.cmd_options.specs.declared.drawing.Drawing.{Drawing}
@@ -15,6 +15,8 @@ use Rattle.cmd_options.specs.declared.options.Walking.{Walking}
 use Rattle.cmd_options.specs.declared.options.Working.{Working}
 use Rattle.cmd_words.specs.Given.{IsArgument, IsFlag, IsLedger, IsNumber, IsNumberIf, IsStates, IsTextIf, IsWrittenAt}
 use Rattle.cmd_words.specs.Grammar.{grammar}
+use Rattle.cmd_words.specs.declared.sourcing.Source.{Source}
+use Rattle.cmd_words.specs.declared.sourcing.Source.TheVariants.{Standard, File, Lines}
 
 pub record AsksSearch (rows : List Row) (s : Search) : Type 0 where
   pub known : IsTextIf rows (codes "known") s.known
@@ -27,7 +29,7 @@ pub record AsksSearch (rows : List Row) (s : Search) : Type 0 where
   pub rules : IsNumber rows (codes "rules") s.rules
   pub hard : IsFlag rows (codes "hard") s.hard
 
--- but for the frames that are lost
+-- except for the frames that are lost
 pub record AsksSettling (rows : List Row) (s : Settling) : Type 0 where
   pub states : IsNumber rows (codes "N") s.states
   pub workers : IsNumber rows (codes "workers") s.workers
@@ -160,3 +162,33 @@ AreAsked (Some (name, rows)) asked = AsksFor name rows asked
 -- the words of a command line ask for it, by the program's grammar
 abbrev pub AskFor : List (List ℕ) → Options → Type 0
 AskFor words asked = AreAsked (subcommand_of grammar words) asked
+
+-- of the matches of that command, whichever it is
+abbrev pub OfCommand : Option (List ℕ × List Row) → (List Row → Type 0) → Type 0
+OfCommand None holds = ⊥
+OfCommand (Some (name, rows)) holds = holds rows
+
+-- the words of a command line give `--why`, or don't
+abbrev pub AskWhy : List (List ℕ) → Bool → Type 0
+AskWhy words why = OfCommand (subcommand_of grammar words) (λ rows. IsFlag rows (codes "why") why)
+
+-- and `--lenient`
+abbrev pub AskLenient : List (List ℕ) → Bool → Type 0
+AskLenient words lenient = OfCommand (subcommand_of grammar words) (λ rows. IsFlag rows (codes "lenient") lenient)
+
+-- a path, where it isn't the `-` of standard input
+abbrev pub NamesNoFile : Option (List ℕ) → Type 0
+NamesNoFile None = ⊤
+NamesNoFile (Some path) = path ≡ codes "-"
+
+-- where a command reads its lines: not two of the three at once
+abbrev pub IsSource : List Row → Source → Type 0
+IsSource rows Standard = NamesNoFile (first_of (codes "input") rows) × (all_of (codes "LINE") rows ≡ None)
+IsSource rows (File path) =
+    (first_of (codes "input") rows ≡ Some path.now) × ((path.now ≡ codes "-") → ⊥) × (all_of (codes "LINE") rows ≡ None)
+IsSource rows (Lines lines) =
+    (first_of (codes "input") rows ≡ None) × (all_of (codes "LINE") rows ≡ Some (map (λ line. line.now) lines.items))
+
+-- the words of a command line give its lines, name their file behind `--input`, or do neither
+abbrev pub AskSource : List (List ℕ) → Source → Type 0
+AskSource words source = OfCommand (subcommand_of grammar words) (λ rows. IsSource rows source)

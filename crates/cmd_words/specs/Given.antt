@@ -1,27 +1,22 @@
 -- What clap's matches give of an option or an argument, by its name.
 use Rattle.std.specs.Prelude.{◌≡◌, ℕ, Bool, true, false, List, [], Option, Some, None, codes, cond, option_map, unwrap_or}
 use Rattle.std.specs.Borrow.{Bor}
-use Rattle.std.specs.Str.Parse.{IsNumeral, digits_value, without_leading_plus}
 use Rattle.clap.specs.Words.{Row, first_of, found_of, one_of, rows_of}
 use Rattle.clap.specs.declared.parser.matches.ArgMatches.{ArgMatches}
 use Rattle.cmd_options.specs.declared.ledger_file.LedgerFile.{LedgerFile}
 use Rattle.cmd_options.specs.declared.ledger_file.Durability.TheVariants.{Disk, System}
+use Rattle.cmd_words.specs.Numerals.{IsDecimal, IsNumeral}
 
 -- what was found for each argument and option of a command
 abbrev pub rows_found : ArgMatches → List Row
 rows_found matches = rows_of (found_of matches)
-
--- the digits of a text, behind a plus or none, are this number
-abbrev pub IsDecimal : List ℕ → ℕ → Type 0
-IsDecimal text n =
-    IsNumeral 10 (without_leading_plus text) × (n ≡ digits_value 10 (without_leading_plus text))
 
 -- a number of states in an argument that may be a path
 abbrev pub IsStates : List Row → List ℕ → ℕ → Type 0
 IsStates rows name n = (word : List ℕ) × (first_of name rows ≡ Some word) × IsDecimal word n
 
 abbrev pub IsNumber : List Row → List ℕ → ℕ → Type 0
-IsNumber rows name n = (text : List ℕ) × (one_of name rows ≡ Some text) × IsDecimal text n
+IsNumber rows name n = (text : List ℕ) × (first_of name rows ≡ Some text) × IsNumeral text n
 
 -- of a number that may be left out
 abbrev pub IsNumberIf : List Row → List ℕ → Option ℕ → Type 0

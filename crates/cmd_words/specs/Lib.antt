@@ -1,5 +1,6 @@
 pub mod Unread
 pub mod Grammar
+pub mod Numerals
 pub mod Given
 pub mod Asked
 pub mod inside

@@ -6,7 +6,7 @@ use Rattle.clap.specs.declared.error.kind.ErrorKind.TheVariants.{DisplayHelp, Di
 use Rattle.cmd_options.specs.declared.outcome.Outcome.{Outcome}
 use Rattle.cmd_options.specs.declared.outcome.Outcome.TheVariants.{Accepted, BadLine, NoMemory, Failed}
 use Rattle.cmd_words.specs.declared.line_fault.LineFault.{LineFault}
-use Rattle.cmd_words.specs.declared.line_fault.LineFault.TheVariants.{Refused, PathForNumber, FileForInput, LedgerOfStream, OpenToAll, NoTree, SyncOfNothing, NotText, NoSuchCommand, OutOfRange, KnownFromInput, NoMemory as WantsMemory}
+use Rattle.cmd_words.specs.declared.line_fault.LineFault.TheVariants.{Refused, PathForNumber, NoNumber, FileForInput, FileForLine, TwoSources, LedgerOfStream, OpenToAll, NoTree, SyncOfNothing, NotText, NoSuchCommand, OutOfRange, KnownFromInput, NoMemory as WantsMemory}
 
 -- memory was refused, or a stream failed when the fault was to be said
 abbrev pub EndsGravely : Outcome → Type 0
@@ -20,14 +20,17 @@ IsAskedFor told = (kind_of told ≡ DisplayHelp) ⊎ (kind_of told ≡ DisplayVe
 abbrev pub EndsUnread : LineFault → Outcome → Type 0
 EndsUnread (Refused told) o = (IsAskedFor told × (o ≡ Accepted)) ⊎ ((IsAskedFor told → ⊥) × (o ≡ BadLine))
     ⊎ EndsGravely o
-EndsUnread (PathForNumber told) o = (o ≡ BadLine) ⊎ EndsGravely o
+EndsUnread (PathForNumber text) o = (o ≡ BadLine) ⊎ EndsGravely o
+EndsUnread (NoNumber text) o = (o ≡ BadLine) ⊎ EndsGravely o
 EndsUnread (FileForInput told) o = (o ≡ BadLine) ⊎ EndsGravely o
+EndsUnread FileForLine o = (o ≡ BadLine) ⊎ EndsGravely o
+EndsUnread TwoSources o = (o ≡ BadLine) ⊎ EndsGravely o
 EndsUnread LedgerOfStream o = (o ≡ BadLine) ⊎ EndsGravely o
 EndsUnread OpenToAll o = (o ≡ BadLine) ⊎ EndsGravely o
 EndsUnread NoTree o = (o ≡ BadLine) ⊎ EndsGravely o
 EndsUnread SyncOfNothing o = (o ≡ BadLine) ⊎ EndsGravely o
 EndsUnread NotText o = (o ≡ BadLine) ⊎ EndsGravely o
 EndsUnread NoSuchCommand o = (o ≡ BadLine) ⊎ EndsGravely o
-EndsUnread OutOfRange o = (o ≡ BadLine) ⊎ EndsGravely o
+EndsUnread (OutOfRange number) o = (o ≡ BadLine) ⊎ EndsGravely o
 EndsUnread KnownFromInput o = (o ≡ BadLine) ⊎ EndsGravely o
 EndsUnread WantsMemory o = EndsGravely o

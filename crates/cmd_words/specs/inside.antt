@@ -4,9 +4,8 @@ use Rattle.std.specs.Option.{option_map_or}
 use Rattle.std.specs.Borrow.{Bor}
 use Rattle.clap.specs.Walk.{is_empty}
 use Rattle.clap.specs.Words.{App, Rule, new_app, new_rule, rule_of, with_rule, with_subcommand}
-use Rattle.clap.specs.declared.builder.action.ArgAction.TheVariants.{SetTrue}
+use Rattle.clap.specs.declared.builder.action.ArgAction.TheVariants.{Append, SetTrue}
 use Rattle.clap.specs.declared.builder.arg.Arg.{Arg}
-use Rattle.clap.specs.declared.builder.value_parser.ValueParser.TheVariants.{Unsigned}
 use Rattle.cmd_options.specs.declared.number.Number.{Number}
 use Rattle.cmd_words.specs.Grammar.{search_rules}
 use Rattle.cmd_words.specs.declared.words.Argument.{Argument}
@@ -21,14 +20,16 @@ valued_rule name None = record (new_rule name) { required = true }
 valued_rule name (Some value) = record (new_rule name) { long = Some name; value_names = 1 }
 
 abbrev pub number_rule : Number → Rule
-number_rule number =
-    record (valued_rule number.name.now number.value) {
-      parser = Some (Unsigned number.least number.most);
-      defaults = option_map_or (λ text. text.now ∷ []) number.default [];
-    }
+number_rule number = record (valued_rule number.name.now number.value) {
+  defaults = option_map_or (λ text. text.now ∷ []) number.default [];
+}
 
 abbrev pub text_rule : Text → Rule
 text_rule text = valued_rule text.name.now text.value
+
+-- any number of them
+abbrev pub texts_rule : Text → Rule
+texts_rule text = record (text_rule text) { required = false; action = Some Append; is_free = false }
 
 abbrev pub flag_rule : Flag → Rule
 flag_rule flag =
@@ -43,6 +44,7 @@ argument_rule (row.Number number) = number_rule number
 argument_rule (row.Text text) = text_rule text
 argument_rule (row.TextUnless text flag) = record (text_rule text) { required = false; is_free = false }
 argument_rule (row.TextWith text option) = record (text_rule text) { is_free = false }
+argument_rule (row.Texts text option) = texts_rule text
 argument_rule (row.Flag flag) = flag_rule flag
 
 -- with more arguments, in turn

@@ -17,9 +17,9 @@ mod rows {
     pub(crate) const ROUNDS: Number = ranged! { name: "rounds", value: Some("R"), least: 1, most: 1_000_000_000,
         default: Some("1000000"), help: "Stop after so many rounds" };
     pub(crate) const ERA: Number = ranged! { name: "era", value: Some("E"), least: 1, most: u64::MAX,
-        default: Some("1"), help: "Tells this run's leases from those of an earlier one" };
+        default: Some("1"), help: "Distinguishes this run's leases from those of an earlier one" };
     pub(crate) const TRIES: Number = ranged! { name: "tries", value: Some("T"), least: 1, most: 1_000_000,
-        default: Some("20"), help: "Give up where so many tries in a row to connect have failed" };
+        default: Some("20"), help: "Give up after so many failed tries in a row to connect" };
     pub(crate) const PER_ADDRESS: Number = ranged! { name: "per-address", value: Some("K"), least: 1, most: 1_000,
         default: Some("100"), help: "Take so many connections from one address, over TCP" };
     pub(crate) const ID: Number = ranged! { name: "id", value: Some("I"), least: 0, most: 4_294_967_232, default: None,
@@ -31,7 +31,7 @@ mod rows {
     pub(crate) const DEAR: Number = ranged! { name: "dear", value: Some("K"), least: 0, most: 100_000_000,
         default: Some("1000"), help: "With --save, append each record of more than K steps too" };
     pub(crate) const STEPS: Number = ranged! { name: "steps", value: Some("K"), least: 1, most: 100_000_000,
-        default: Some("1000"), help: "Steps that each search runs a table at most" };
+        default: Some("1000"), help: "The most steps of a search's run; scales the stages of --hard" };
     pub(crate) const FROM: Number = ranged! { name: "from", value: Some("T"), least: 0, most: 100_000_000,
         default: Some("0"), help: "Begin at this time" };
     pub(crate) const DRAWN: Number = ranged! { name: "steps", value: Some("K"), least: 0, most: 100_000_000,
@@ -53,6 +53,15 @@ mod rows {
     pub(crate) const RUN_STEPS: Number = ranged! { name: "steps", value: Some("K"), least: 0, most: 100_000_000,
         default: Some("1000000"), help: "With --normal, run a table for so many steps at most" };
 
+    pub(crate) const LINES: Text = Text { name: "LINE", value: None,
+        help: "A table or a record, in quotes where it has spaces; without any, and without --input, standard input" };
+    // A table alone is what is decided.
+    pub(crate) const TABLE_LINES: Text = Text {
+        help: "A table; without any, and without --input, standard input", ..LINES };
+    pub(crate) const RECORD_LINES: Text = Text {
+        help: "A record, in quotes; without any, and without --input, standard input", ..LINES };
+    pub(crate) const INPUT: Text = Text { name: "input", value: Some("FILE"),
+        help: "Read the lines of this file (of standard input where it is `-`)" };
     pub(crate) const FILE: Text = Text { name: "FILE", value: None, help: "The ledger file" };
     pub(crate) const READ: Text = Text { name: "FILE", value: None,
         help: "The ledger file, or `-` for standard input" };
@@ -75,11 +84,11 @@ mod rows {
     pub(crate) const MENDED: Text = Text { name: "OUT", value: None,
         help: "The ledger file that is written; it may be the same" };
     pub(crate) const LEDGER: Text = Text { name: "ledger", value: Some("FILE"),
-        help: "The ledger file, which is created where it isn't there; none is kept without it" };
+        help: "The ledger file, which is created where it isn't there; without it none is kept" };
     pub(crate) const ROOT: Text = Text { name: "root", value: Some("TABLE"),
         help: "Walk the tree below this table alone" };
     pub(crate) const SAVE: Text = Text { name: "save", value: Some("FILE"),
-        help: "Append the records to this file that were dear to find, for --known" };
+        help: "Append the records that took long to find to this file, for --known" };
     pub(crate) const LISTEN: Text = Text { name: "listen", value: Some("ADDR"),
         help: "Serve workers at HOST:PORT, at a port of 127.0.0.1, or at a socket file (its path has a `/`)" };
     pub(crate) const TOKEN: Text = Text { name: "token", value: Some("FILE"),
@@ -89,7 +98,7 @@ mod rows {
     pub(crate) const CONNECT: Text = Text { name: "connect", value: Some("TO"),
         help: "The coordinator's HOST:PORT, port of 127.0.0.1, or socket file (its path has a `/`)" };
     pub(crate) const WORK_LEDGER: Text = Text { name: "ledger", value: Some("FILE"),
-        help: "The ledger file of one worker; of several FILE.1, FILE.2 and so on; none are kept without it" };
+        help: "The ledger file of one worker; of several FILE.1, FILE.2 and so on; without it none are kept" };
     pub(crate) const JOINED: Text = Text { name: "ledger", value: Some("OUT"), help: "Write the one ledger too" };
     pub(crate) const PICTURES: Text = Text { name: "out", value: Some("DIR"),
         help: "Make a file of each picture, DIR/TABLE.svg" };
@@ -103,7 +112,7 @@ mod rows {
     pub(crate) const LEDGER_SYNC: Flag = Flag { needs: &["ledger"], ..SYNC };
     // The stages say themselves how far they look.
     pub(crate) const HARD: Flag = Flag { name: "hard", needs: &[], excludes: REACH_NAMES,
-        help: "Go by stages, from cheap searches to dear ones; --steps scales them" };
+        help: "Go by stages, from quick searches to long ones; --steps scales them (1000000: some hours a table)" };
     pub(crate) const JSON: Flag = Flag { name: "json", needs: &[], excludes: &[], help: "Print the report as JSON" };
     // Without `listen` there is no report.
     pub(crate) const SERVED_JSON: Flag = Flag { needs: &["listen"], ..JSON };
@@ -113,15 +122,21 @@ mod rows {
         help: "Take holdouts of workers without a token too" };
     pub(crate) const LINE_JSON: Flag = Flag { name: "json", needs: &[], excludes: &[],
         help: "Print an object of JSON for each line" };
-    pub(crate) const RECORD_WHY: Flag = Flag { name: "why", needs: &[], excludes: &[],
-        help: "Say on standard error, in words, what is wrong with a record" };
+    pub(crate) const WHY: Flag = Flag { name: "why", needs: &[], excludes: &[],
+        help: "Say on standard error, in words, what was refused or cut off, also where that isn't a terminal" };
+    pub(crate) const RECORD_WHY: Flag = Flag { help: "Say on standard error, in words, what is wrong with a record", ..WHY };
+    pub(crate) const LINE_WHY: Flag = Flag { help: "Say on standard error, in words, why a line is refused", ..WHY };
+    pub(crate) const LEDGER_WHY: Flag = Flag {
+        help: "Say on standard error why the first line that isn't kept isn't", ..WHY };
+    pub(crate) const LENIENT: Flag = Flag { name: "lenient", needs: &[], excludes: &[],
+        help: "Take a CR at a line's end, and pass over blank lines and comments, lines that begin with #" };
     pub(crate) const FOLD: Flag = Flag { name: "fold", needs: &[], excludes: &[],
         help: "Fold words that repeat, as in 1^12 (01)^5" };
     pub(crate) const NORMAL: Flag = Flag { name: "normal", needs: &[], excludes: &[],
         help: "Name the states as the run reaches them, and mirror a table whose first move is to the left" };
     // A certificate is of the table as it stands.
     pub(crate) const WITH_RECORDS: Flag = Flag { name: "records", needs: &[], excludes: &["normal"],
-        help: "Keep the record that stands behind a table" };
+        help: "Keep the record that follows a table" };
     pub(crate) const PNG: Flag = Flag { name: "png", needs: &[], excludes: &["height"],
         help: "Draw a PNG in place of an SVG" };
     pub(crate) const TABLE: Flag = Flag { name: "table", needs: &[], excludes: &[],
@@ -129,8 +144,6 @@ mod rows {
     pub(crate) const HOLDOUTS: Flag = Flag { name: "holdouts", needs: &[], excludes: &[],
         help: "Print the tables that are recorded without a verdict, and read no lines" };
     pub(crate) const PROGRESS: Flag = Flag { name: "progress", needs: &[], excludes: &[],
-        help: "Say on standard error how far it is, a line a second, where that isn't a terminal too" };
+        help: "Show the progress on standard error, a line a second, also where that isn't a terminal" };
     pub(crate) const SERVED_PROGRESS: Flag = Flag { needs: &["listen"], ..PROGRESS };
-    pub(crate) const WHY: Flag = Flag { name: "why", needs: &[], excludes: &[],
-        help: "Say on standard error why the first line that isn't kept isn't" };
 }

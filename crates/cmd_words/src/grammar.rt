@@ -1,13 +1,12 @@
 // The commands with their arguments and options, by clap's builder.
-ghost use Rattle.std.specs.Prelude.{◌≡◌, IfOk, false};
+ghost use Rattle.std.specs.Prelude.{◌≡◌, IfOk, Some, false};
 ghost use Rattle.clap.specs.Words.{app_of, new_app, new_rule, with_rule, with_subcommand};
 ghost use Rattle.cmd_words.specs.Grammar.{grammar, search_rules};
-ghost use Rattle.cmd_words.specs.inside.{IsBy, argument_rule, command_app, empty_program, flag_rule, more_rules, number_rule, text_rule, valued_rule, with_arguments, with_commands, with_reaches};
+ghost use Rattle.cmd_words.specs.inside.{IsBy, argument_rule, command_app, empty_program, flag_rule, more_rules, number_rule, text_rule, texts_rule, valued_rule, with_arguments, with_commands, with_reaches};
 
 use crate::commands::{COMMANDS, CommandWords, SEARCH, SEARCH_BY_STAGES};
-use crate::help::{BRIEF, STATUSES};
+use crate::help::{BRIEF, PROGRAM};
 use crate::words::{Argument, Flag, Text};
-use clap::builder::ValueParser;
 use clap::{Arg, ArgAction, Command};
 use cmd_options::{NoMemory, Number, REACHES, VERSION};
 use std::alloc::Global;
@@ -16,18 +15,21 @@ use std::alloc::Global;
 pub(crate) fn program<'a>(alloc: Global) -> Result<Command<'a>, NoMemory>
     ensures { IfOk result (λ program. app_of program ≡ grammar) }
 {
-    with_commands(alloc, empty_program(alloc), &COMMANDS)
+    let empty = empty_program(alloc)?;
+    with_commands(alloc, empty, &COMMANDS)
 }
 
-fn empty_program<'a>(alloc: Global) -> Command<'a>
-    ensures { app_of result ≡ empty_program }
+// Usage calls it `bb`, whatever the program's file is called.
+fn empty_program<'a>(alloc: Global) -> Result<Command<'a>, NoMemory>
+    ensures { IfOk result (λ empty. app_of empty ≡ empty_program) }
 {
     Command::new(alloc, "bb")
         .version(VERSION)
         .about("A verified tool for the busy beaver problem.")
-        .after_help(STATUSES)
+        .after_help(PROGRAM)
         .subcommand_required(true)
         .arg_required_else_help(true)
+        .bin_name("bb")
 }
 
 #[tactic(auto, unfolding(crate::specs::inside::with_commands))]
@@ -131,16 +133,16 @@ fn built<'a>(alloc: Global, argument: &Argument) -> Result<Arg<'a>, NoMemory>
         Argument::Text(text) => Ok(text_arg(alloc, text)),
         Argument::TextUnless(text, flag) => text_unless(alloc, text, *flag),
         Argument::TextWith(text, option) => text_arg(alloc, text).requires_arg(*option),
+        Argument::Texts(text, option) => texts_arg(alloc, text, *option),
         Argument::Flag(flag) => flag_arg(alloc, flag),
     }
 }
 
+// A text for clap, which knows no numbers with `_` or `e`: `number_of` reads it.
 fn number_arg<'a>(alloc: Global, number: &Number) -> Arg<'a>
     ensures { IsBy (number_rule number.now) result }
 {
-    let arg = valued(alloc, number.name, number.value)
-        .value_parser(ValueParser::unsigned(number.least, number.most))
-        .help(number.help);
+    let arg = valued(alloc, number.name, number.value).help(number.help);
     match number.default {
         Some(default) => arg.default_value(default),
         None => arg,
@@ -161,6 +163,16 @@ fn text_unless<'a>(alloc: Global, text: &Text, flag: &'static str) -> Result<Arg
         .required(false)
         .required_unless_present(flag)?
         .conflicts_with(flag)
+}
+
+// Any number of texts, in whose place the option may stand.
+fn texts_arg<'a>(alloc: Global, text: &Text, option: &'static str) -> Result<Arg<'a>, NoMemory>
+    ensures { IfOk result (IsBy (texts_rule text.now)) }
+{
+    text_arg(alloc, text)
+        .required(false)
+        .action(ArgAction::Append)
+        .conflicts_with(option)
 }
 
 // An option, where help has a name for its value; else an argument.

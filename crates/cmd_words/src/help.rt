@@ -1,8 +1,16 @@
 // What help says of the program and of each command.
 
-pub(crate) const STATUSES: &str =
-    "Exit status: 0 all accepted; 1 something was refused; 2 a wrong command line; 3 out of memory; 4 a stream or a file
-failed.";
+// The groups in which help lists the commands, and how each ends.
+pub(crate) const PROGRAM: &str = "The commands are for
+  records of single machines: check decide explain show draw tables
+  whole trees: run walk loop report page look retry
+  trees in parts: split settle join
+  many computers: coord work
+  ledger files: merge carry mend
+
+A number can be written as 1000000, 1_000_000 or 1e6.
+Exit status: 0 all accepted; 1 something was refused; 2 a wrong command line; 3 out of memory; 4 a stream or a file
+failed, which standard error names. With --why it says also why a ledger was refused, and what was cut off one.";
 
 /// What the short help of each command says last.
 pub(crate) const BRIEF: &str = "bb COMMAND --help says more.";
@@ -10,9 +18,9 @@ pub(crate) const BRIEF: &str = "bb COMMAND --help says more.";
 pub(crate) const REPORT: &str =
     "A ledger is the line `bb-ledger 2 TABLE`, which names the root of a tree, and then records, one a
 line; `bb-ledger 1 TABLE` begins one of version 1, whose records of the kind H have no score. Each record is
-judged again; what stands behind the first line that can't be taken isn't kept.
-A file is read as far as it went when it was opened, standard input (`-`) to its end; a file that is named
-so is `./-`.
+judged again. The first line that can't be taken isn't kept, and neither are the lines after it.
+A file is read as far as it went when it was opened, standard input (`-`) to its end; a file of that name is
+`./-`.
 
 The report has these lines
   root TABLE
@@ -35,10 +43,10 @@ With --json it is one object and a newline: best (a number or null), champions, 
 holdouts, never, nodes, ones (a number or null), ones_champions, open, root, status. It doesn't say what
 wasn't kept; the status is the same.
 
-Standard error says how far it is: at a terminal on one line that is written over, elsewhere with --progress, a line a
+Standard error shows the progress: at a terminal on one line that is written over, elsewhere with --progress, a line a
 second.
 
-With --why standard error says of the first line that isn't kept why it isn't: `line N isn't kept: NUMBER, WORDS`,
+With --why standard error says why the first line that isn't kept isn't: `line N isn't kept: NUMBER, WORDS`,
 without a number where it is torn off or repeated.
 
 Exit status: 0 the report says complete, and all was kept; 1 it doesn't, or the ledger was refused
@@ -52,30 +60,30 @@ table that no other worker has; a record that it sends (`REC RECORD`) is judged,
 it is new, and then acknowledged. Over standard input there is no clock: a lease ends where its worker asks again
 or is done.
 
-With --listen workers connect (`bb work --connect ADDR`), 1,000 at most; a lease that isn't renewed ends after a minute.
-Where the tree is settled each worker is told to stop, and the report is printed, as by `bb report`. Standard error says
-how far it is: at a terminal on one line that is written over, elsewhere with --progress, a line a second.
-Frames aren't encrypted. With --token workers and coordinator show one another that they have the same token, before any
-frame; without it anyone who reaches ADDR may come, so an address that other computers reach is refused (`refused 607`)
-unless --open is said. No verdict can be made false by anybody, since each record is judged here. docs/CLUSTER.md has
-more.
+With --listen workers connect (`bb work --connect ADDR`), 1,000 at most; a lease that isn't renewed ends after a
+minute. When the tree is settled, the workers stop, and the report is printed, as by `bb report`. Standard error shows
+the progress: at a terminal on one line that is written over, elsewhere with --progress, a line a second. Frames aren't
+encrypted. With --token workers and coordinator show one another that they have the same token, before any frame.
+Without it anyone who reaches ADDR can connect, so an address that other computers reach is refused (`refused 607`),
+except with --open. Nobody can make a verdict false, since each record is judged here. docs/CLUSTER.md has more.
 
   bb coord 4 --listen 127.0.0.1:7007 --ledger four.ledger
   bb work --connect 127.0.0.1:7007 --hard
 
-With FILE in place of N it goes on with that ledger: with one of `bb split`, say, whose header names the root of a part.
-So several coordinators share a tree, and `bb join` adds up what they have. FILE has to be there, and it needs --listen.
+With FILE in place of N it goes on with that ledger: with one of `bb split`, say, whose header names the root of a
+part. So several coordinators share a tree, and `bb join` adds up what they have. FILE has to be there, and it needs
+--listen.
 
 ADDR is HOST:PORT, a port alone of 127.0.0.1, or the path of a socket file, which has a `/`; with port 0 standard
-error says at which port it listens. A socket file at which nobody listens any more is made anew; whatever else stands
-there stays (`refused 603`). A worker that sends what no worker sends is let go: a line that is no message, a record
-that is refused, or a holdout (TABLE U), which is taken with --token or --accept-holdouts alone. So is one whose first
-line doesn't come within 10 seconds, or of whom nothing comes for an hour; where 1,000 are there, the one that was
-silent longest, for a minute at least, makes room for another. At a terminal it is said who comes, and why one is gone.
+error says which port it is. A socket file at which nobody listens is replaced; anything else that is there stays
+(`refused 603`). The coordinator disconnects a worker that sends what no worker sends: a line that is no message, a
+record that is refused, or a holdout (TABLE U) without --token or --accept-holdouts. It also disconnects a worker whose
+first line doesn't come within 10 seconds, and one that sends nothing for an hour. Where 1,000 are connected, the one
+that was silent longest, for a minute at least, makes room for another. At a terminal standard error says who connects,
+and why a worker is gone.
 
-The token is what FILE holds, without a newline at its end. Once no table is open the coordinator goes on until each
-worker is gone, or for 5 seconds. SIGINT and SIGTERM end it at once; what was acknowledged stands in the ledger. A
-ledger is cut or appended to only where that is due.
+The token is what FILE holds, without a newline at its end. Once no table is open the coordinator goes on until all
+workers are gone, or for 5 seconds. SIGINT and SIGTERM end it at once; what was acknowledged is in the ledger.
 
 Exit status: 0 at the end the board is complete; 1 it isn't, or the ledger was refused
 (`refused 404` no header with a readable table, `refused 405` another root); 2 a wrong command line, or an address at
@@ -86,39 +94,38 @@ be read or has fewer than 16 bytes (`refused 605`).";
 pub(crate) const WORK: &str =
     "Frames of the coordinator come on standard input, a line each, and frames to it go to standard output; with --connect
 both go over a connection. Each worker of the process asks for a table, looks for the records of its tree as
-`bb decide` does, and hands them in; the coordinator judges them. So that the way there and back costs little, several
-workers share the process and the stream. Where a connection is lost, or can't be had, it is tried again, after 1, 2, 4
-seconds and so on, up to a minute.
+`bb decide` does, and sends them; the coordinator judges them. Several workers share the process and the stream, so
+that no time is lost waiting for answers. Where a connection is lost, or can't be made, it is tried again, after 1, 2,
+4 seconds and so on, up to a minute.
 
   bb work --connect coordinator.example:7007 --hard
   bb work --connect /tmp/bb.socket --id 17 --ids 16
 
-What answers, and isn't a coordinator, counts as a try in vain, and so does one that doesn't show the token of --token:
-there are --tries in a row, 20 unless that is said. At a terminal it is said where it connects, and why a try was in
-vain. SIGINT and SIGTERM end it at once; what wasn't
-handed in is found again, or stands in a ledger of its own. Of several workers --ledger FILE means FILE.1, FILE.2 and
-so on.
+A try has failed too where something answers that isn't a coordinator, or doesn't show the token of --token. After
+--tries failures in a row, 20 by default, the process ends. Standard error says why a try failed, and at a terminal
+where it connects. SIGINT and SIGTERM end it at once. What wasn't sent by then is found again later, or is in a ledger
+of the worker's own. With several workers --ledger FILE means FILE.1, FILE.2 and so on.
 
-Exit status: 0 each worker was told to stop, since the tree is settled; 1 a ledger was refused (`refused 404` no header
-with a readable table, `refused 405` its table doesn't name its states in order); 2 a wrong command line; 3 out of
-memory (`refused memory`); 4 the stream ended or failed before that, or the connection couldn't be had (`refused 603`),
-or a ledger failed (`refused 604`), or another process writes it (`refused 606`), or known records or the token couldn't
-be read, or that has fewer than 16 bytes (`refused 605`).";
+Exit status: 0 the tree is settled; 1 a ledger was refused (`refused 404` no header with a readable table,
+`refused 405` its table doesn't name its states in order); 2 a wrong command line; 3 out of memory (`refused memory`);
+4 the stream ended or failed before that, or the connection couldn't be made (`refused 603`), or a ledger failed
+(`refused 604`), or another process writes it (`refused 606`), or known records or the token couldn't be read, or the
+token has fewer than 16 bytes (`refused 605`).";
 
 pub(crate) const RUN: &str =
     "A coordinator grants tables to workers; each looks for certificates as `bb decide` does, and the coordinator
 judges what they send. At the end comes the report, as by `bb report`. It is the same however many workers
 there are and whatever frames are lost. With --ledger a run that was stopped goes on where it was.
-Standard error says how far it is: at a terminal on one line that is written over, elsewhere with --progress, a line a
+Standard error shows the progress: at a terminal on one line that is written over, elsewhere with --progress, a line a
 second.
 
 All workers run in this process, on one processor. To use all processors, cut the tree into parts by `bb split`, and
-work them off by `contrib/parallel.sh DIR`; or let `contrib/tree.sh N DIR` do both and join them.
+settle them by `contrib/parallel.sh DIR`; or let `contrib/tree.sh N DIR` split, settle and join.
 
 The workers have the ids 1, 2 and so on, and keep no ledgers; the coordinator's leases have the era 1. In a round the
 coordinator has a tick; each worker in its turn gets time to work eight times, and a tick; its frames go to the
-coordinator, and the answers come back. Rounds end where nothing is open, or after --rounds. How much is settled is
-Knuth's estimate (1975): a root weighs one, the children of a table share its weight evenly.
+coordinator, and the answers come back. Rounds end where nothing is open, or after --rounds. The progress is Knuth's
+estimate (1975) of how much is settled: a root weighs one, the children of a table share its weight evenly.
 
 Exit status: 0 the report says complete; 1 it doesn't, or the ledger was refused (`refused 404` no header
 with a readable table, `refused 405` another root); 2 a wrong command line; 3 out of memory
@@ -127,19 +134,18 @@ the ledger (`refused 606`), or known records couldn't be read (`refused 605`).";
 
 pub(crate) const WALK: &str =
     "The tables of the tree are decided in depth first order: a certificate is looked for as `bb decide` does, and judged
-once. No record is kept, and so no ledger: of the tables that are decided only the numbers are, the champions and the
-holdouts. At the end comes the report, as by `bb report`, the same as that of `bb run` where all is settled. It takes
-little memory, however large the tree is: 16 bytes for each holdout, beside what the searches take. A walk that was
-stopped begins anew.
+once. No record is kept, and so no ledger: only numbers of tables, the champions and the holdouts are kept. At the end
+comes the report, as by `bb report`, the same as that of `bb run` where all is settled. It takes little memory, however
+large the tree is: 16 bytes for each holdout, and what the searches take. A walk that was stopped begins from scratch.
 
-With --root TABLE, a table of N states, it is the tree below that table alone. The report says `root TABLE`; its best is
-S(N) where TABLE has no entries.
+With --root TABLE, a table of N states, only the tree below that table is walked. The report says `root TABLE`; its
+best is S(N) where TABLE has no entries.
 
-With --save FILE each record is appended to FILE, as soon as it is found, that a look-up would have saved time on: found
-by another search than runs and backward reasoning, with --hard by a later stage than the eighth, or of more than --dear
-steps. What was looked up isn't appended. The next walk is given FILE by --known.
+With --save FILE the records that took long to find are appended to FILE, each as soon as it is found: those that other
+searches than runs and backward reasoning found, with --hard those of later stages than the eighth, and those of more
+than --dear steps. What was looked up isn't appended. The next walk gets FILE by --known.
 
-All goes in this process, on one processor; `contrib/walk.sh N` uses all. Standard error says how far it is: at a
+All is done in this process, on one processor; `contrib/walk.sh N` uses all. Standard error shows the progress: at a
 terminal on one line that is written over, elsewhere with --progress, a line a second.
 
 Exit status: 0 the report says complete; 1 it doesn't, or the root is refused (`refused 405`: it isn't a table of N
@@ -148,18 +154,18 @@ states that names its states in order); 2 a wrong command line; 3 out of memory 
 (`refused 605`), or another process writes the file of records (`refused 606`).";
 
 pub(crate) const LOOP: &str =
-    "As `bb run`, but that the frames of each worker go over a connection of its own on 127.0.0.1, at most 4,096
+    "As `bb run`, except that the frames of each worker go over a connection of its own on 127.0.0.1, at most 4,096
 bytes at a time, and that none is lost. The report is the same.
 
-Exit status: as of `bb run`; 4 where a socket failed too (`refused 603`). A ledger is good to go on with then, by
+Exit status: as of `bb run`; 4 also where a socket failed (`refused 603`). The ledger can be used after that, by
 `bb run --ledger` too.";
 
 pub(crate) const RETRY: &str =
     "Holdouts are tables that are recorded without a verdict. Each is looked at again, as by `bb decide`, and a
-record with a verdict is appended to FILE. What follows the last line that can be kept is cut off first; but for a
-torn last line it is kept in FILE.cut, and `bb mend` reads it.
+record with a verdict is appended to FILE. What follows the last line that can be kept is cut off first; it is kept in
+FILE.cut, except for a torn last line, as --why says, and `bb mend` reads it.
 What becomes open below a settled table stays open: `bb run --ledger FILE` goes on with it.
-Standard error says how far it is: at a terminal on one line that is written over, elsewhere with --progress, a line a
+Standard error shows the progress: at a terminal on one line that is written over, elsewhere with --progress, a line a
 second.
 
 Holdouts are looked at in the order of their texts as they stood at the start. FILE has to be there.
@@ -175,10 +181,10 @@ and then those of B for tables that A has no record of. Each record is judged ag
 `merged R open O holdouts H`: how many records, open tables and holdouts there are; and `left LINE`, as by
 `bb report`, of the first of the two of which not all could be kept.
 
-A is read and judged before B is opened, and both before OUT is touched. Where OUT leads to a plain file or to
-nothing, the ledger is written to a new file beside it, OUT.new, which takes its place once it is on the disk; links
-stay; after a failure the new file is left. A name that stands at OUT.new is removed first; where it leads to A or B,
-one more `.new` stands behind it. A device is written over.
+A is read and judged before B is opened, and both before OUT is touched. Where OUT leads to a plain file or to nothing,
+the ledger is written to a new file beside it, OUT.new, which takes its place once it is on the disk; links stay; after
+a failure the new file is left. A file OUT.new that is there already is removed first; where it leads to A or B, the
+new file is OUT.new.new. A device is written over.
 
 Exit status: 0 all was kept; 1 it wasn't, or a ledger was refused (`refused 404` no header with a readable
 table, `refused 405` the tables of the two headers differ, or one isn't in order); 2 a wrong command line;
@@ -199,17 +205,17 @@ table, `refused 405` its table doesn't name its states in order); 2 a wrong comm
 (`refused 603`), or another process writes OUT (`refused 606`).";
 
 pub(crate) const MEND: &str =
-    "Each line of IN behind its header is read by itself and offered in turn, and OUT gets the records that are taken,
-as a ledger of version 2: so a line that is spoilt costs itself and the tables below its own, and none behind it. Then
-comes the line `mended R dropped D`: how many records OUT has, and how many lines weren't taken.
+    "Each line of IN after its header is read by itself, in order, and OUT gets the records that are taken, as a ledger of
+version 2. So a damaged line costs itself and the tables below its own, and none of the lines after it. Then comes the
+line `mended R dropped D`: how many records OUT has, and how many lines weren't taken.
 Commands that cut a damaged ledger keep what they cut off in a file beside it, FILE.cut.
 
   bb mend damaged.ledger whole.ledger
   cat FILE FILE.cut | bb mend - whole.ledger
 
 OUT is written as by `bb merge`, once IN was read to its end. A line of either version is taken; a holdout that a
-later line settles is settled in its place; a last line without a newline is read too. Lines that are dropped are
-spoilt, don't stand, are known already, or empty.
+later line settles is settled in its place; a last line without a newline is read too. Lines are dropped that are
+damaged or empty, whose certificate doesn't stand, or whose table has a record already.
 
 Exit status: 0 each line was taken; 1 one wasn't, or the ledger was refused (`refused 404` no header with a readable
 table, `refused 405` its table doesn't name its states in order); 2 a wrong command line; 3 out of memory
@@ -217,26 +223,26 @@ table, `refused 405` its table doesn't name its states in order); 2 a wrong comm
 (`refused 603`), or another process writes OUT (`refused 606`).";
 
 pub(crate) const DRAW: &str =
-    "Time goes downwards, a row for each time, cells to the right; ones are dark, the head has the colour of its state,
-and a line beneath the last row says that the machine halts with its next step. Where there are more steps than rows,
-only every so many-th is drawn; where there are more cells than columns, neighbours share one, which is dark where more
-than half of them hold a one, and pale where some do. The whole first picture goes to standard output, and a table after
-the first is refused (`refused 306`); with --out each table has a file, and its line the answer `TABLE drawn`.
+    "Time goes downwards, a row for each time, cells to the right; ones are dark, the head has the colour of its state, and
+a line beneath the last row says that the machine halts with its next step. Where there are more steps than rows, only
+every so many-th is drawn; where there are more cells than columns, neighbours share one, which is dark where more than
+half of them hold a one, and pale where some do. The whole first picture goes to standard output, and a table after the
+first is refused (`refused 306`); with --out each table has a file, and its line the answer `TABLE drawn`.
 
-  echo 1RB1LB_1LA--- | bb draw > champion.svg
-  bb draw --out pictures < tables.txt
+  bb draw 1RB1LB_1LA--- > champion.svg
+  bb draw --out pictures --input tables.txt
 
-Of K steps, for R rows, every E-th time is drawn, where E is one more than the whole part of K/R; in place of the
-first that a run which halts doesn't reach, its last time. Of W cells, for C columns, each column has W/C of them,
-rounded up, and the last what is left. With --width W the first head stands in column W/2, rounded down, from 0 on;
-with --from a run that halts before begins at its last time. --square is as many pixels as make neither side longer
-than 1,000; --height makes rows as high as it allows. With --png the picture has the light colours, without line and
-legend, and isn't given with --height. A record's certificate isn't judged. With --out the folder is made where it
-isn't there; a picture is made beside its place and put there, a link at its place stays, and a picture that can't be
-written ends the command.
+Lines are arguments (after `--` where one begins with `-`), or in the file of --input, or else on standard input. Of K
+steps, for R rows, every E-th time is drawn, where E is one more than the whole part of K/R; a run that halts ends with
+its last time. Of W cells, for C columns, each column has W/C of them, rounded up, and the last what is left. With
+--width W the first head is in column W/2, rounded down, from 0 on; with --from a run that halts before begins at its
+last time. --square is reduced until neither side is longer than 1,000 pixels; --height makes rows as high as it
+allows. With --png the picture has the light colours, without line and legend; it can't be given with --height. A
+record's certificate isn't judged. With --out the folder is made where it isn't there; a picture is made beside its
+place and put there, a link at its place stays, and a picture that can't be written ends the command.
 
-Exit status: 0 each line was a table or a record, and one at most without --out; 1 a line was refused; 2 a wrong command
-line; 3 out of memory (`refused memory`); 4 a stream failed (`refused 603`), or a picture couldn't be written
+Exit status: 0 each line was a table or a record, and one at most without --out; 1 a line was refused; 2 a wrong
+command line; 3 out of memory (`refused memory`); 4 a stream failed (`refused 603`), or a picture couldn't be written
 (`refused 605`).";
 
 pub(crate) const PAGE: &str =
@@ -245,8 +251,9 @@ many entries are filled, the champions with pictures of their runs, and the hold
 and sorted; and what a tree shows that is complete. The ledger is read as by `bb report`. FILE may be a folder that
 `bb split` made: its page is that of all its ledgers together, which are read as by `bb join`.
 
-With --table no ledger is read but records on standard input, a line each, and the page has the picture of each one's
-run, its transitions, what its certificate says in words, and the record to copy. With --title the page has that title.
+With --table records are read on standard input, a line each, in place of a ledger. For each record the page has a
+picture of its run, its transitions, what its certificate says in words, and the record to copy. With --title the page
+has that title.
 
   bb page four.ledger --title 'Four states' > four.html
   bb decide --hard < tables.txt | bb page --table > tables.html
@@ -255,22 +262,21 @@ It has the first eight champions with pictures of some 240 rows and at most 320 
 and a plot of steps with a bar for each power of two, both scales logarithmic; what would be empty isn't there. It
 says what made it: the version, the SHA-256 of the program, and that of the ledger; of a folder the sum of the list of
 its ledgers (`cd DIR && LC_ALL=C sha256sum *.ledger | sha256sum`). Without a script all holdouts are there; with one
-500 at first, with search and sorting, #TABLE for a row, and the first 10,000 steps of a run by a button. A holdout's
-text is a link to bbchallenge.org; nothing is loaded before a reader follows it. With --table a line that is refused
-has a section too.
+500 at first, with search and sorting, #TABLE for a row, and a button for the first 10,000 steps of a run. A holdout's
+text is a link to bbchallenge.org; nothing is loaded before a reader follows it. With --table a refused line has a
+section too.
 
 Exit status: as that of `bb report`, and with --table as that of `bb check`.";
 
 pub(crate) const SPLIT: &str =
-    "DIR/trunk.ledger is the trunk, a ledger from the root: it holds all tables with fewer than D filled entries. Each
-other table that is open then is the root of a part, DIR/TABLE.ledger, which begins with no record. Each part can be
-worked off by `bb settle` anywhere, in any order, and begun again where it was stopped; `bb join DIR` says how all
-stand together. On a folder that is there already only what is missing is added. Then comes the line
-`trunk R parts P`: how many records the trunk has, and how many parts there are.
-To use all processors, work the parts off by `contrib/parallel.sh DIR`, as many at once as there are processors; or
-let `contrib/tree.sh N DIR` split, work off and join.
-Standard error says how far it is: at a terminal on one line that is written over, elsewhere with --progress, a line a
-second.
+    "DIR/trunk.ledger is the trunk, a ledger from the root: it holds all tables with fewer than D filled entries. Each other
+table that is open then is the root of a part, DIR/TABLE.ledger, which begins with no record. `bb settle` settles a
+part, on any machine and in any order, and goes on where it was stopped; `bb join DIR` prints the report of all
+together. In a folder that is there already only what is missing is added. Then comes the line `trunk R parts P`: how
+many records the trunk has, and how many parts there are. To use all processors, settle the parts by
+`contrib/parallel.sh DIR`, as many at once as there are processors; or let `contrib/tree.sh N DIR` split, settle and
+join. Standard error shows the progress: at a terminal on one line that is written over, elsewhere with --progress, a
+line a second.
 
 A part that is there already, with as many bytes as its header or more, is left as it is. The open tables with few
 filled entries are decided in rounds, each in the order of their texts; a record without a verdict is appended too.
@@ -281,12 +287,12 @@ command line; 3 out of memory (`refused memory`); 4 a file failed (`refused 604`
 another process writes the trunk (`refused 606`), or known records couldn't be read (`refused 605`).";
 
 pub(crate) const SETTLE: &str =
-    "The first open table in the order of the texts is looked at, as by `bb decide`, and its record is appended, until
-none is open. What follows the last line that can be kept is cut off first; but for a torn last line it is kept in
-FILE.cut, and `bb mend` reads it. It can be stopped at any time, and goes on where it was. Then comes the line
-`settled R holdouts H`: how many records came, and how many tables of the ledger are recorded without a verdict.
-Standard error says how far it is: at a terminal on one line that is written over, elsewhere with --progress, a line a
-second.
+    "The first open table in the order of the texts is looked at, as by `bb decide`, and its record is appended, until none
+is open. What follows the last line that can be kept is cut off first; it is kept in FILE.cut, except for a torn last
+line, as standard error says, and `bb mend` reads it. The command can be stopped at any time, and goes on where it was.
+At the end comes the line `settled R holdouts H`: how many records were added, and how many tables of the ledger are
+recorded without a verdict. Standard error shows the progress: at a terminal on one line that is written over,
+elsewhere with --progress, a line a second.
 
 FILE has to be there.
 
@@ -296,25 +302,25 @@ readable table, `refused 405` its table doesn't name its states in order); 2 a w
 (`refused 606`), or known records couldn't be read (`refused 605`).";
 
 pub(crate) const JOIN: &str =
-    "The report is that of one ledger with the records of the trunk and of all parts, byte for byte. A part that isn't
-there counts as an open table. What is wrong with a part is said on standard error behind its path, and its records
-count as far as they are kept: `missing`, `left LINE` as by `bb report`, `refused 404` no header with a readable table,
-`refused 405` its table doesn't name its states in order, `refused 406` its root is another table than its name says.
-With --ledger the one ledger is written too; it must be none of the folder's (`refused 408`).
+    "The report is that of one ledger with the records of the trunk and of all parts, byte for byte. A part that isn't there
+counts as an open table. Standard error says what is wrong with a part, after its path: `missing`, `left LINE` as by
+`bb report`, `refused 404` no header with a readable table, `refused 405` its table doesn't name its states in order,
+`refused 406` its root is another table than its name says. Its records count as far as they are kept. With --ledger
+the one ledger is written too; it must be none of the folder's (`refused 408`).
 
-Standard input (`-`) is read to its end: the trunk's ledger first, and then those of its parts, one behind the other in
-any order. What is wrong with a part is said behind its root: `missing`, `left LINE`, `added before` where one of that
-root came already, `not under the trunk`; or, where it has no root, behind its number in the stream (`refused 404`,
-`refused 405`). A folder that is named so is `./-`.
+Standard input (`-`) is read to its end: the trunk's ledger first, and then those of its parts, one after the other in
+any order. Standard error says what is wrong with a part, after its root: `missing`, `left LINE`, `added before` where
+a part with that root came already, `not under the trunk`; or, where it has no root, after its number in the stream
+(`refused 404`, `refused 405`). A folder of that name is `./-`.
 
-Standard error says how far it is: at a terminal on one line that is written over, elsewhere with --progress, a line a
+Standard error shows the progress: at a terminal on one line that is written over, elsewhere with --progress, a line a
 second.
 
 One part is in memory at a time; parts are looked for under the trunk's open tables, and other files don't count. A
 trunk that can't be read is `refused 605`, one without a root `refused 404`. The one ledger has the trunk's lines, and
-then those of the parts in the order of their roots; it is written as by `bb merge`, once the last part was judged,
-and not with `-`. An OUT that is the trunk or a part, under whatever name, is refused, and so is one where a link of
-these leads to OUT.new.
+then those of the parts in the order of their roots; it is written as by `bb merge`, once the last part was judged, and
+not with `-`. An OUT that is the trunk or a part, under any name, is refused, and so is one where the trunk or a part
+is a link to OUT.new.
 
 Exit status: 0 the report says complete, and all was kept; 1 it doesn't, or a ledger was refused; 2 a wrong command
 line; 3 out of memory (`refused memory`); 4 a file couldn't be read (`refused 605`) or written (`refused 604`), or a
@@ -325,59 +331,67 @@ pub(crate) const LOOK: &str = "  $ bb run 2 --ledger two.ledger | grep best
   $ echo 1RB1LB_1LA--- | bb look two.ledger
   1RB1LB_1LA--- H 6 4
 
-To a table comes its record, or `TABLE open` where it has none yet, or `TABLE unknown` where it isn't of the tree. In a
-folder that `bb split` made the record of a table is looked for in the part that it belongs to, which is judged then;
-where that isn't there, its tables are unknown. A line that is no table is refused as by `bb decide`.
+The answer to a table is its record, or `TABLE open` where it has none yet, or `TABLE unknown` where it isn't in the
+tree. In a folder that `bb split` made, the record of a table is looked for in the part that it belongs to, which is
+judged then; where that part isn't there, its tables are unknown. A line that is no table is refused as by `bb decide`.
+
+A table is looked for as it stands in its line. A tree holds one form of each machine: its states are named as its run
+reaches them, and its first move is to the right. So a table that is mirrored, or names its states in another way, is
+unknown. `bb tables --normal` before it brings tables into that form:
+
+  bb tables --normal < list.txt | bb look five
 
 With --holdouts no lines are read: the tables that are recorded without a verdict are printed, in the order of their
-texts, of all parts of a folder.
+texts, those of all parts of a folder.
 
-Of a folder the trunk is loaded once, and a part when its tables are asked for; the last one is kept. Nothing is
-written. With --holdouts of a folder what is wrong with it is said as by `bb join`.
+In a folder the trunk is loaded once, and a part when its tables are asked for; the last part is kept. Nothing is
+written. With --holdouts standard error says what is wrong with a folder, as by `bb join`.
 
-Exit status: 0 each table has a record; 1 one has none, or a line or a ledger was refused; 2 a wrong command line; 3 out
-of memory (`refused memory`); 4 a file couldn't be read (`refused 605`), or a stream failed (`refused 603`).";
+Exit status: 0 each table has a record; 1 one has none, or a line or a ledger was refused; 2 a wrong command line; 3
+out of memory (`refused memory`); 4 a file couldn't be read (`refused 605`), or a stream failed (`refused 603`).";
 
-pub(crate) const DECIDE: &str = "  $ echo 1RB1LB_1LA--- | bb decide
+pub(crate) const DECIDE: &str = "  $ bb decide 1RB1LB_1LA---
   1RB1LB_1LA--- H 6 4
-  $ echo 0RB0LA_0LB--- | bb decide | bb check
+  $ bb decide 0RB0LA_0LB--- | bb check
   0RB0LA_0LB--- never
 
+Lines are arguments (after `--` where one begins with `-`), or in the file of --input, or else on standard input.
 A line is a table in the bbchallenge standard format. Its record has the first certificate that is
 found and stands, looked for in this order: that it halts, a cycle, a translated cycle, backward
 reasoning, a closed position set, finite automata, automata from words, counted automata,
 rules with induction; or `U`, undecided.
-First of all comes what is known: with --known the file's record of the table, where that stands. How many of the
-file's lines were refused, and which was the first, is said on standard error at the end.
-A text that is no table is answered `refused 301` with its fault, as by `bb check`, and a line over 65,536 bytes
+With --known the file's record of the table comes before all that, where it stands. Standard error says at the end how
+many of the file's lines were refused, and which was the first.
+A text that is no table gets the answer `refused 301` with its fault, as by `bb check`, and a line over 65,536 bytes
 `refused 305`.
 
 With --json each answer is an object, as by `bb check --json`, with the record as the member `record` in place of
 `ones` and `steps`.
-Standard error says how far it is: at a terminal on one line that is written over, elsewhere with --progress, a line a
+Standard error shows the progress: at a terminal on one line that is written over, elsewhere with --progress, a line a
 second.
 
-Loops are looked for within 10,000,000 steps at most. Words of n-grams are tried by width from 1 on, automata by
-stages (docs/FINDERS.md); --count is of both sides together. --hard has its own stages, and isn't given with --depth,
---gram, --far, --words, --count or --rules.
-The file of --known is read once, before anything else; its lines stand in any order, and of each table the first
-counts that is a record of it and claims something. One that doesn't stand is forgotten, and the search goes on. At a
-terminal the first line that is a record is named at the end.
+Loops are looked for within 10,000,000 steps at most. Words of n-grams are tried by width from 1 on, automata by stages
+(docs/FINDERS.md); --count is of both sides together. --hard has its own stages, and can't be given with --depth,
+--gram, --far, --words, --count or --rules. With --hard --steps scales the stages: with a thousand times the default,
+1000000, a table that none of them settles takes some hours. The file of --known is read once, before anything else.
+Its lines can be in any order; for each table the first counts that is a record of it and claims something. A record
+that doesn't stand is forgotten, and the search goes on. At a terminal standard error names the first line that is a
+record, at the end.
 
 Exit status: 0 each line was a table; 1 some wasn't; 2 a wrong command line; 3 out of memory
 (`refused memory` on standard error); 4 a stream failed (`refused 603`), or known records couldn't be
 read (`refused 605`).";
 
-pub(crate) const RECORDS: &str = "  $ echo 1RB1LB_1LA--- H 6 4 | bb check
+pub(crate) const RECORDS: &str = "  $ bb check '1RB1LB_1LA--- H 6 4' '0RB---_0LA--- C 0 2'
   1RB1LB_1LA--- halts 6 ones 4
-  $ echo 0RB---_0LA--- C 0 2 | bb check
   0RB---_0LA--- never
 
+Lines are arguments (after `--` where one begins with `-`), or in the file of --input, or else on standard input.
 A record is a table in the bbchallenge standard format, a space and a certificate:
   H k         it halts in k steps (the halting step counts); k up to 100,000,000
   H k s       so it does, and with s ones on its tape then (the halting step writes one)
   C i j       the configurations at the times i and j are equal; j up to 10,000,000
-  T i j side  they are, but for a shift to that side (L or R) and for what lies behind it
+  T i j side  they are, except for a shift to that side (L or R) and for what lies behind it
   B d         it does d steps, and no configuration at all halts after exactly d; d up to 1,000
   N g L R C   no step leaves these words of g symbols on the left and on the right of the head, and these
               local configurations; g from 1 to 8, each list sorted and joined by commas, and the three
@@ -398,8 +412,8 @@ A record is a table in the bbchallenge standard format, a space and a certificat
   P           the table is one of eight of five states that have a proof of their own; of one of them, Skelet 1, the
               run is followed until it repeats, which takes half a minute and 80 megabytes
   U           nothing is claimed
-An entry to Z or H, as in 1RB1LB_1LA0RZ, is an undefined entry, as `---` is: it halts, what it would write isn't looked
-at, and the score counts a one there (1RB1LB_1LA0RZ H 6 4 is right).
+An entry to Z or H, as in 1RB1LB_1LA0RZ, is an undefined entry, as `---` is: it halts. What it would write doesn't
+matter, and the score counts a one there (1RB1LB_1LA0RZ H 6 4 is right).
 
 An answer is one of
   TABLE halts K      the certificate stands: the table halts in K steps
@@ -423,21 +437,21 @@ them. Where 1RB1LB_1LA--- H 7 4 is the third line, its object is, in one line,
   \"steps\":null,\"table\":\"1RB1LB_1LA---\",\"text\":\"1RB1LB_1LA--- H 7 4\",\"verdict\":\"refused\"}
 `text` is the line and `line` its number; `verdict` is halts, never, undecided or refused; `steps` and `ones` are
 null where the answer has no such number, `code` and `meaning` where the line is accepted, `kind` and `table` where it
-is no record. With --why the words stand in the object too, and nothing is said of the line on standard error.
+is no record. With --why the words are in the object too, and not on standard error.
 
-With --why standard error says of each refused line why it is, as `line N: WORDS`; of a halting record whose number is
-wrong also in how many steps its table halts, where that is within 100,000,000: such a line costs a run of as many. At
-a terminal the first line that is a table alone is named at the end.
+With --why standard error says why each refused line is refused, as `line N: WORDS`. For a halting record with a wrong
+number it says in how many steps the table halts, where that is within 100,000,000, and such a line costs a run of as
+many steps. At a terminal standard error names the first line that is a table alone, at the end.
 
 Exit status: 0 all accepted; 1 a line was refused; 2 a wrong command line; 3 out of memory
 (`refused memory` on standard error); 4 a stream failed (`refused 603`).";
 
 pub(crate) const EXPLAIN: &str =
-    "Prints for each line the answer of `bb check`; behind it, of a record that stands, what its check has shown, in
-words; and then an empty line. With --json each line has an object, that of `bb check --json` with the words as the
-member `words`.
+    "Prints for each line the answer of `bb check`; then, for a record that stands, what its check has shown, in words; and
+then an empty line. With --json each line has an object, that of `bb check --json` with the words as the member
+`words`.
 
-  echo 1RB1LB_1LA--- H 6 4 | bb explain
+  bb explain '1RB1LB_1LA--- H 6 4'
 
 Exit status: as that of `bb check`.";
 
@@ -446,31 +460,31 @@ pub(crate) const SHOW: &str =
 has the head, with the state's letter and `>` before the head's cell. A run that halts ends with its last configuration
 and `halts K ones S`.
 
-  echo 1RB1LB_1LA--- | bb show --steps 10 --fold
+  bb show 1RB1LB_1LA--- --steps 10 --fold
 
-Between the time and the tape stand two spaces. The last configuration of a run that halts is shown also where its
-time isn't one of those that are asked for. With --fold a word of at most 16 symbols that stands at least three times
-on one side of the head is written `1^4` or `(01)^3`, the shortest first. A line that is neither a table nor a record
-is refused as by `bb check`.
+Lines are arguments (after `--` where one begins with `-`), or in the file of --input, or else on standard input.
+Two spaces are between the time and the tape. The last configuration of a run that halts is always shown. With --fold a
+word of at most 16 symbols that is repeated three times or more on one side of the head is written `1^4` or `(01)^3`,
+the shortest first. A line that is neither a table nor a record is refused as by `bb check`.
 
 Exit status: 0 each line was a table or a record; 1 a line was refused; 2 a wrong command line; 3 out of memory
 (`refused memory`); 4 a stream failed (`refused 603`).";
 
 pub(crate) const TABLES: &str =
-    "Each table in a text of any form (comments, links, CSV, CR LF) is printed once, where it comes first. How many
-lines had none, and how many tables had come before, is said at the end on standard error.
+    "Each table in a text of any form (comments, links, CSV, CR LF) is printed once, where it comes first. Standard error
+says at the end how many lines had no table, and how many tables had come before.
 
-With --records a record keeps what stands behind its table. A certificate is of the table as it stands, so --normal
-can't be given with it.
+With --records the record that follows a table is kept. A certificate is of the table as it stands, so --normal can't
+be given with it.
 
   bb tables < list.txt | bb decide --hard
   bb tables --records < list.txt | bb check
 
 A word is a longest row of the characters 0 to 9, A to Z, `_` and `-`; Z and H read as undefined. A line over 65,536
-bytes is passed over. What was passed over is said so: `passed over: lines without a table L, doubles D`, where either
-isn't 0; it isn't refused.
-With --normal states that the run doesn't come to in --steps steps are last, in their old order, and entries that it
-doesn't use are renamed and mirrored along; doubles are left out after that. With --records a line that is a record,
-but for white space at its ends, is printed as it is; of any other line the tables are.
+bytes is passed over. Standard error says `passed over: lines without a table L, doubles D`, where either isn't 0;
+nothing of it is refused.
+With --normal states that the run doesn't reach in --steps steps come last, in their old order, and entries that it
+doesn't use are renamed and mirrored with the others; doubles are left out after that. With --records a line that is a
+record, except for white space at its ends, is printed as it is; of any other line the tables are printed.
 
 Exit status: 0; 2 a wrong command line; 3 out of memory (`refused memory`); 4 a stream failed (`refused 603`).";

@@ -1,26 +1,33 @@
-// Why a command line asks for nothing, and what is said then.
+// Why a command line asks for nothing, and the answer to it.
 ghost use Rattle.cmd_words.specs.Unread.{EndsUnread};
 
 use clap::Error;
 use clap::error::ErrorKind;
-use cmd_options::{Ended, NoMemory, Outcome};
+use cmd_options::{Ended, NoMemory, Number, Outcome};
 use std::alloc::{AllocFailed, Global};
 use std::io::{self, Write};
 use thiserror::Error as Fault;
 
-/// Why there are no options: clap refused the words (also for a path where a number belongs, or where lines are read on standard
-/// input) or was asked for help or the version; the one ledger of a stream was asked for; a coordinator would listen where anyone
-/// may come, has no tree, or is to wait for the disk without a ledger; a word isn't text; clap let through what it should have
-/// refused; known records would be read from standard input; or memory was refused.
+/// Why there are no options: clap refused the words (also for a file where text is read on standard input) or was asked for
+/// help or the version; a word is no number of the range where one belongs, but a path or another text; a file is given in
+/// place of a line; the one ledger of a stream was asked for; a coordinator would listen where anyone may come, has no tree, or
+/// is to wait for the disk without a ledger; a word isn't text; clap let through what it should have refused (two sources of
+/// lines, another command); known records would be read from standard input; or memory was refused.
 #[derive(Debug, Drop, Fault)]
 pub enum LineFault {
     #[error("{0}")]
     Refused(Error),
     #[error("{0}\nA number belongs there, and that is a path: a ledger is named as FILE where the command has one, \
 else behind --ledger.\n")]
-    PathForNumber(Error),
-    #[error("{0}\nThe lines are read on standard input: a file is given as in `bb check < FILE`.\n")]
+    PathForNumber(String),
+    #[error("{0}")]
+    NoNumber(String),
+    #[error("{0}\nThe text is read on standard input: a file is given as in `bb tables < FILE`.\n")]
     FileForInput(Error),
+    #[error("error: the arguments are tables or records, a line each: a file of them is given by --input FILE, or on standard input\n")]
+    FileForLine,
+    #[error("error: lines are arguments or in the file of --input, not both\n")]
+    TwoSources,
     #[error("error: --ledger needs a folder: of standard input (`-`) no one ledger is written\n")]
     LedgerOfStream,
     #[error("refused 607: other computers can reach that address: --token FILE says who may come, --open lets anyone in\n")]
@@ -34,7 +41,7 @@ else behind --ledger.\n")]
     #[error("error: no such command\n")]
     NoSuchCommand,
     #[error("error: a number is out of its range\n")]
-    OutOfRange,
+    OutOfRange(Number),
     #[error("error: --known takes a file, not standard input (a file of that name is ./-)\n")]
     KnownFromInput,
     #[error("refused memory\n")]
@@ -42,7 +49,7 @@ else behind --ledger.\n")]
 }
 
 impl LineFault {
-    /// Says it, help and the version on `answers`, all else on `faults`, and answers how the command line
+    /// Writes it, help and the version to `answers`, all else to `faults`, and answers how the command line
     /// ended: `Accepted` after help or the version, `BadLine` after another fault, `NoMemory` or `Failed`
     /// where memory is refused or the stream fails.
     pub fn told<W: Write, E: Write>(self, alloc: Global, answers: &mut W, faults: &mut E) -> Outcome
@@ -51,14 +58,17 @@ impl LineFault {
         let is_answer = match &self {
             LineFault::Refused(refused) => !refused.use_stderr(),
             LineFault::PathForNumber(_)
+            | LineFault::NoNumber(_)
             | LineFault::FileForInput(_)
+            | LineFault::FileForLine
+            | LineFault::TwoSources
             | LineFault::LedgerOfStream
             | LineFault::OpenToAll
             | LineFault::NoTree
             | LineFault::SyncOfNothing
             | LineFault::NotText
             | LineFault::NoSuchCommand
-            | LineFault::OutOfRange
+            | LineFault::OutOfRange(_)
             | LineFault::KnownFromInput => false,
             LineFault::NoMemory => return Ended::NoMemory.told(faults),
         };

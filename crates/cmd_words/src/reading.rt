@@ -1,46 +1,27 @@
 // From what clap made of the words to the options.
-ghost use Rattle.std.specs.Prelude.{◌≡◌, ◌≤◌, IfOk, IfSome, codes, map};
+ghost use Rattle.std.specs.Prelude.{◌≡◌, ◌≤◌, IfOk, IfSome, codes};
 ghost use Rattle.cmd_options.specs.Ranges.{AreWithinRanges, IsSettling, IsWithinRange};
-ghost use Rattle.cmd_words.specs.Asked.{AskFor, AsksFor, AsksFile, AsksSaving, AsksSearch, AsksSettling};
+ghost use Rattle.cmd_words.specs.Asked.{AsksFor, AsksFile, AsksSaving, AsksSearch, AsksSettling};
 ghost use Rattle.cmd_words.specs.Given.{IsArgument, IsFlag, IsLedger, IsNumber, IsNumberIf, IsTextIf, IsWrittenAt, rows_found};
 
 use crate::arguments::*;
 use crate::coordinating::coord_options;
-use crate::grammar::program;
 use crate::line_fault::LineFault;
+use crate::numbers::number_read;
 use crate::words::{Flag, Text};
-use clap::error::ErrorKind;
-use clap::{ArgMatches, Error};
+use clap::ArgMatches;
 use cmd_options::{
     COUNT, Carrying, Checking, DEPTH, Deciding, Drawing, Durability, FAR, GRAM, Joining,
-    LedgerFile, LedgerSettling, Listing, Looking, Mending, Merging, NoMemory, Number, Options,
-    Paging, RULES, Reporting, Retrying, Saving, Search, Settling, Showing, Splitting, WORDS,
-    Walking, Working,
+    LedgerFile, LedgerSettling, Listing, Looking, Mending, Merging, Number, Options, Paging, RULES,
+    Reporting, Retrying, Saving, Search, Settling, Showing, Splitting, WORDS, Walking, Working,
 };
-use std::alloc::Global;
 
 // In place of a path: standard input.
 const STANDARD_INPUT: &str = "-";
 
-/// What the words of a command line ask for, the program's name first: of the command that they name, each option is what
-/// clap's matches have under its name, for these words and the program's grammar. Each number is within its range.
-pub fn options<'a>(alloc: Global, words: &'a [&'a str]) -> Result<Options<'a>, LineFault>
-    ensures within { IfOk result AreWithinRanges }
-    ensures asked { IfOk result (AskFor (map (λ word. word.now) words.entry.now)) }
-{
-    let matches = match program(alloc)?.try_get_matches_from(words) {
-        Ok(matches) => matches,
-        Err(fault) => return Err(refused(alloc, fault, words)),
-    };
-    match matches.subcommand() {
-        Some((name, command)) => asked(name, command),
-        None => Err(LineFault::NoSuchCommand),
-    }
-}
-
-// What the command of a name asks for. A function of its own: the proof of so many ways out of one that owns clap's
-// matches would be dear.
-fn asked<'a>(name: &str, command: &ArgMatches<'a>) -> Result<Options<'a>, LineFault>
+// What the command of a name asks for. A function of its own: one that owns clap's matches, with so many ways out, would take
+// long to prove.
+pub(crate) fn asked<'a>(name: &str, command: &ArgMatches<'a>) -> Result<Options<'a>, LineFault>
     ensures within { IfOk result AreWithinRanges }
     ensures asked { IfOk result (AsksFor name.now (rows_found command.now)) }
 {
@@ -70,63 +51,7 @@ fn asked<'a>(name: &str, command: &ArgMatches<'a>) -> Result<Options<'a>, LineFa
     }
 }
 
-// What clap refuses; named where it is a path in the place of a number, or a file of lines.
-fn refused(alloc: Global, fault: Error, words: &[&str]) -> LineFault {
-    match fault.kind() {
-        ErrorKind::ValueValidation => match has_path(alloc, &fault, words) {
-            Ok(true) => LineFault::PathForNumber(fault),
-            Ok(false) => LineFault::from(fault),
-            Err(NoMemory) => LineFault::NoMemory,
-        },
-        ErrorKind::UnknownArgument if reads_lines(words) => match has_file(alloc, &fault, words) {
-            Ok(true) => LineFault::FileForInput(fault),
-            Ok(false) => LineFault::from(fault),
-            Err(NoMemory) => LineFault::NoMemory,
-        },
-        _ => LineFault::from(fault),
-    }
-}
-
-// Whether the command is one that reads lines on standard input and has no file as an argument.
-fn reads_lines(words: &[&str]) -> bool {
-    match words.get(1) {
-        Some(command) => matches!(
-            *command,
-            "check" | "decide" | "explain" | "show" | "tables" | "draw"
-        ),
-        None => false,
-    }
-}
-
-// Whether clap speaks of a word that is no option.
-fn has_file(alloc: Global, fault: &Error, words: &[&str]) -> Result<bool, NoMemory> {
-    let said = format!(in alloc; "{fault}")?;
-    for word in words.iter().skip(2) {
-        if !word.starts_with('-') && quotes(alloc, &said, word)? {
-            return Ok(true);
-        }
-    }
-    Ok(false)
-}
-
-// Whether a word of which clap speaks is a path.
-fn has_path(alloc: Global, fault: &Error, words: &[&str]) -> Result<bool, NoMemory> {
-    let said = format!(in alloc; "{fault}")?;
-    for word in words {
-        if word.contains(['/', '.']) && quotes(alloc, &said, word)? {
-            return Ok(true);
-        }
-    }
-    Ok(false)
-}
-
-// Whether the text has the word in quotes.
-fn quotes(alloc: Global, text: &str, word: &str) -> Result<bool, NoMemory> {
-    let quoted = format!(in alloc; "'{word}'")?;
-    Ok(text.contains(quoted.as_str()))
-}
-
-// How far to search. clap has refused what is out of range.
+// How far to search.
 fn search_of<'a>(matches: &ArgMatches<'a>) -> Result<Search<'a>, LineFault>
     ensures within { IfOk result IsWithinRange }
     ensures asked { IfOk result (AsksSearch (rows_found matches.now)) }
@@ -159,10 +84,18 @@ pub(crate) fn number_of(matches: &ArgMatches<'_>, number: Number) -> Result<u64,
     ensures within { IfOk result (λ given. (number.least ≤ given) × (given ≤ number.most)) }
     ensures given { IfOk result (IsNumber (rows_found matches.now) number.name.now) }
 {
-    match matches.get_one::<u64>(number.name) {
+    match given_number(matches, number.name) {
         Some(given) if number.least <= given && given <= number.most => Ok(given),
-        _ => Err(LineFault::OutOfRange),
+        _ => Err(LineFault::OutOfRange(number)),
     }
+}
+
+// The number that an option has, within its range or not.
+fn given_number(matches: &ArgMatches<'_>, name: &str) -> Option<u64>
+    ensures { IfSome result (IsNumber (rows_found matches.now) name.now) }
+{
+    let word = matches.get_str(name)?;
+    number_read(word)
 }
 
 // The number of an option that may be left out.
@@ -355,7 +288,7 @@ fn walk_options<'a>(walk: &ArgMatches<'a>) -> Result<Options<'a>, LineFault>
     }))
 }
 
-// Where records are saved that were dear to find, if they are.
+// Where records that took long to find are saved, if they are.
 fn saving_of<'a>(walk: &ArgMatches<'a>) -> Result<Option<Saving<'a>>, LineFault>
     ensures within { IfOk result (λ saving. IfSome saving (λ saving. saving.dear ≤ 100000000)) }
     ensures asked { IfOk result (AsksSaving (rows_found walk.now)) }
@@ -494,7 +427,7 @@ fn report_options<'a>(report: &ArgMatches<'a>) -> Options<'a>
     Options::Report(Reporting {
         file: argument_of(report, READ),
         json: flag_of(report, JSON),
-        why: flag_of(report, WHY),
+        why: flag_of(report, LEDGER_WHY),
         progress: flag_of(report, PROGRESS),
     })
 }

@@ -10,6 +10,8 @@ pub(crate) enum Argument {
     TextUnless(Text, &'static str),
     /// A text that can be given only where the option of the name is.
     TextWith(Text, &'static str),
+    /// Any number of texts, which can be given only where the option of the name isn't.
+    Texts(Text, &'static str),
     Flag(Flag),
 }
 

@@ -1,3 +1,4 @@
+pub mod Asked
 pub mod Refusals
 pub mod Known
 pub mod inside

@@ -1,4 +1,6 @@
 // The finders that the command line can ask for.
+ghost use Rattle.std.specs.Prelude.{◌≡◌, IfErr};
+
 use crate::hard_finder::HardFinder;
 use crate::known_file::KnownFile;
 use crate::saving::Searcher;
@@ -158,7 +160,9 @@ pub fn decider_for<'a>(
     alloc: Global,
     known: Option<&'a KnownFile<'a>>,
     search: &Search<'_>,
-) -> Result<Finders<AnyFinder<'a>>, Ended> {
+) -> Result<Finders<AnyFinder<'a>>, Ended>
+    ensures { IfErr result (λ e. e ≡ Ended.NoMemory) }
+{
     let finders = all_finders(alloc, known, search)?;
     Ok(Finders::new(finders, search.steps))
 }

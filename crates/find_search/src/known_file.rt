@@ -1,7 +1,10 @@
 // The file of records that were found elsewhere.
+ghost use Rattle.std.specs.Prelude.{◌≡◌, None, Ok};
+ghost use Rattle.find_search.specs.Asked.{known_in};
+
 use crate::{Known, read_known, tell_refusals};
 use cmd_options::{Ended, Options, ended_by};
-use files::{Disk, Files, OnDisk};
+use files::Files;
 use machine_text::Table;
 use std::alloc::Global;
 use std::cell::RefCell;
@@ -17,15 +20,17 @@ pub struct KnownFile<'a> {
 
 impl<'a> KnownFile<'a> {
     /// The one that is asked for; none where none is. Errors: `File` where it can't be read, `NoMemory`.
-    pub fn asked<S: Disk>(
+    pub fn asked<H: Files>(
         alloc: Global,
         asked: &Options<'a>,
-        system: &S,
-    ) -> Result<Option<KnownFile<'a>>, Ended> {
+        files: &H,
+    ) -> Result<Option<KnownFile<'a>>, Ended>
+        ensures { known_in asked.now ≡ None → result ≡ Ok None }
+    {
         let Some(path) = path_in(asked) else {
             return Ok(None);
         };
-        let mut file = match OnDisk::of(alloc, system).open_to_end(path) {
+        let mut file = match files.open_to_end(path) {
             Ok(file) => file,
             Err(fault) => return Err(ended_by(&fault, Ended::File)),
         };
@@ -55,7 +60,9 @@ impl<'a> KnownFile<'a> {
 }
 
 // Where a command that searches for certificates is to look first.
-fn path_in<'a>(asked: &Options<'a>) -> Option<&'a str> {
+fn path_in<'a>(asked: &Options<'a>) -> Option<&'a str>
+    ensures { result ≡ known_in asked.now }
+{
     match asked {
         Options::Decide(deciding) => deciding.search.known,
         Options::Retry(retrying) => retrying.search.known,

@@ -1,8 +1,9 @@
 // A file that remembers what of it fails.
 use crate::failures::Failures;
+use crate::oddity::Oddity;
 use files::DiskFile;
 use std::fs::{self, Metadata, OpenFile};
-use std::io::{self, Read, Write};
+use std::io::{self, ErrorKind, Read, Write};
 
 /// A file of the system under the path at which it was opened: what of it fails is remembered.
 #[derive(Drop)]
@@ -26,8 +27,15 @@ impl NamedFile<'_> {
     }
 
     fn remember(&self, fault: &io::Error) {
-        let name = self.path.as_deref().unwrap_or("a file");
-        self.failures.remember(name, fault);
+        self.failures.remember(self.name(), fault);
+    }
+
+    pub(crate) fn note_odd(&self, oddity: Oddity) {
+        self.failures.note_odd(self.name(), oddity);
+    }
+
+    fn name(&self) -> &str {
+        self.path.as_deref().unwrap_or("a file")
     }
 }
 
@@ -54,7 +62,12 @@ impl DiskFile for NamedFile<'_> {
 
     fn write(&mut self, bytes: &[u8]) -> io::Result<usize> {
         match self.file.write(bytes) {
-            Ok(count) => Ok(count),
+            Ok(count) => {
+                if count == 0 && !bytes.is_empty() {
+                    self.remember(&io::Error::from(ErrorKind::WriteZero));
+                }
+                Ok(count)
+            }
             Err(fault) => {
                 self.remember(&fault);
                 Err(fault)

@@ -4,7 +4,9 @@ use crate::call::SocketCaller;
 use crate::failures::Failures;
 use crate::named_file::NamedFile;
 use crate::named_socket::{LOOPBACK, NamedSocket};
+use crate::oddity::FirstBytes;
 use crate::peer_sockets::PeerSockets;
+use crate::saying::{Odd, Saying, Wording};
 use crate::telling::{ReadingTold, Telling};
 use crate::watch::Watch;
 use crate::watched_file::WatchedFile;
@@ -29,6 +31,8 @@ pub struct System<'a> {
     watch: &'a Watch,
     // whether it was said last that no table is free
     idle: Cell<bool>,
+    // what is said where standard error isn't a terminal
+    words: Cell<Wording>,
 }
 
 impl<'a> System<'a> {
@@ -40,6 +44,10 @@ impl<'a> System<'a> {
             failures,
             watch,
             idle: Cell::new(false),
+            words: Cell::new(Wording {
+                why: false,
+                is_terse: true,
+            }),
         }
     }
 
@@ -79,9 +87,9 @@ impl<'a> System<'a> {
         }
     }
 
-    // Says a line at a terminal, where there was memory for it.
+    // Says a line at a terminal, and elsewhere where all is said; if there was memory for it.
     fn tell(&self, line: Result<String, NoMemory>) {
-        if self.tells_terminal()
+        if self.words.get().are_all(self.tells_terminal())
             && let Ok(line) = line
         {
             // Nothing hangs on whether it can be said.
@@ -153,6 +161,7 @@ impl<'a> Disk for System<'a> {
             rt: self.rt,
             watch: self.watch,
             come: 0,
+            beginning: FirstBytes::none(),
         })
     }
 
@@ -274,7 +283,7 @@ impl<'a> Disk for System<'a> {
     }
 
     fn tell_cut(&self, path: &str, count: u64, kept_at: &str) {
-        if self.tells_terminal() {
+        if self.words.get().have_cuts(self.tells_terminal()) {
             // Nothing hangs on whether it can be said.
             let _ = writeln!(
                 self.rt.stderr(),
@@ -289,6 +298,16 @@ impl<'a> Disk for System<'a> {
 
     fn reason(&self) -> Option<String> {
         self.failures.take()
+    }
+}
+
+impl Saying for System<'_> {
+    fn say(&self, words: Wording) {
+        self.words.set(words);
+    }
+
+    fn odd(&self) -> Option<Odd> {
+        self.failures.take_odd()
     }
 }
 
@@ -394,9 +413,7 @@ impl<'a> Network for System<'a> {
     }
 
     fn tell_again(&self, wait: Duration) {
-        if self.tells_terminal()
-            && let Some(reason) = self.failures.take()
-        {
+        if let Some(reason) = self.failures.take() {
             // Nothing hangs on whether it can be said.
             let _ = writeln!(
                 self.rt.stderr(),

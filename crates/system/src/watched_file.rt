@@ -1,5 +1,6 @@
 // A file that is read, and tells of what takes long to judge.
 use crate::named_file::NamedFile;
+use crate::oddity::FirstBytes;
 use crate::watch::Watch;
 use std::fs::Metadata;
 use std::io::{self, IsTerminal, Read, Write};
@@ -19,6 +20,8 @@ pub struct WatchedFile<'a> {
     pub(crate) watch: &'a Watch,
     // how many bytes of that line have come last
     pub(crate) come: usize,
+    // how it begins
+    pub(crate) beginning: FirstBytes,
 }
 
 impl WatchedFile<'_> {
@@ -36,6 +39,17 @@ impl WatchedFile<'_> {
         }
         if self.comes_in(recent) && self.watch.names_first() {
             self.tell();
+        }
+    }
+
+    // Looks at how the file begins, and remembers what is odd of that.
+    fn look_at(&mut self, piece: &[u8]) {
+        if self.beginning.is_full() {
+            return;
+        }
+        self.beginning.take(piece);
+        if let Some(oddity) = self.beginning.oddity() {
+            self.file.note_odd(oddity);
         }
     }
 
@@ -75,6 +89,7 @@ impl Read for WatchedFile<'_> {
     fn read(&mut self, buf: &mut [u8]) -> io::Result<usize> {
         let count = self.file.read(buf)?;
         self.watch.tell(self.rt, count);
+        self.look_at(&buf[..count]);
         self.follow(&buf[..count]);
         Ok(count)
     }

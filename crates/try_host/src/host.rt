@@ -9,7 +9,7 @@ use cmd_options::Ended;
 use files::{Disk, DiskFile};
 use std::io::{self, ErrorKind};
 use std::time::{Clock, Duration};
-use system::{ReadingTold, Telling};
+use system::{FirstBytes, Odd, ReadingTold, Saying, Telling, Wording};
 
 /// What a command finds, as a host.
 #[derive(Clone, Copy, Drop)]
@@ -38,8 +38,12 @@ impl<'a> Disk for CaseHost<'a> {
                     path: path.to_string(self.room.alloc)?,
                     place,
                     at: 0,
+                    beginning: FirstBytes::none(),
                 })
             }
+            None if disk.is_folder(path) => self
+                .room
+                .noted(path, Err(io::Error::from(ErrorKind::IsADirectory))),
             None => self
                 .room
                 .noted(path, Err(io::Error::from(ErrorKind::NotFound))),
@@ -138,7 +142,7 @@ impl<'a> Disk for CaseHost<'a> {
                 if share.of(1) == 1 {
                     renamed(self.room, from, to)?;
                 }
-                Err(failed())
+                self.room.noted(to, Err(failed()))
             }
         }
     }
@@ -147,6 +151,8 @@ impl<'a> Disk for CaseHost<'a> {
 
     fn lock(&self, path: &str) -> Result<Option<()>, Ended> {
         if path == self.room.conditions.locked.as_str() {
+            let busy = io::Error::from(ErrorKind::ResourceBusy);
+            self.room.remember(path, &busy);
             Ok(None)
         } else {
             self.room.note("lock", path)?;
@@ -168,7 +174,7 @@ impl<'a> Disk for CaseHost<'a> {
     }
 
     fn tell_cut(&self, path: &str, count: u64, kept_at: &str) {
-        if self.tells_terminal() {
+        if self.room.words.get().have_cuts(self.tells_terminal()) {
             let _ = self.room.note_bytes("told of the cut", path, count);
             let _ = self.room.note("kept at", kept_at);
         }
@@ -192,6 +198,16 @@ fn renamed(room: &HostRoom<'_>, from: &str, to: &str) -> io::Result<()> {
     }
     let text = format!(in room.alloc; "{from} {to}")?;
     room.note("put", &text)
+}
+
+impl Saying for CaseHost<'_> {
+    fn say(&self, words: Wording) {
+        self.room.words.set(words);
+    }
+
+    fn odd(&self) -> Option<Odd> {
+        self.room.odd()
+    }
 }
 
 impl ReadingTold for CaseHost<'_> {
@@ -262,9 +278,7 @@ impl<'a> Network for CaseHost<'a> {
     }
 
     fn tell_again(&self, wait: Duration) {
-        if self.tells_terminal()
-            && let Some(reason) = self.room.reason()
-        {
+        if let Some(reason) = self.room.reason() {
             let _ = self
                 .room
                 .note_bytes("again in", reason.trim_end(), wait.as_secs());

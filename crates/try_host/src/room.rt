@@ -5,7 +5,8 @@ use crate::{Conditions, Limits};
 use peers::Dismissal;
 use std::alloc::{AllocError as NoMemory, Global};
 use std::cell::{Cell, RefCell};
-use std::io;
+use std::io::{self, ErrorKind};
+use system::{Odd, Oddity, Wording};
 
 // By which name what fails of a socket is remembered.
 const LOOPBACK: &str = "127.0.0.1";
@@ -42,6 +43,10 @@ pub struct HostRoom<'a> {
     trace: RefCell<Vec<u8>>,
     // What failed last, and why.
     reason: RefCell<Option<String>>,
+    // What was odd first of what was read.
+    odd: RefCell<Option<Odd>>,
+    // What is said where standard error isn't a terminal.
+    pub(crate) words: Cell<Wording>,
 }
 
 impl<'a> HostRoom<'a> {
@@ -74,6 +79,11 @@ impl<'a> HostRoom<'a> {
             flushed: Cell::new(0),
             trace: RefCell::new(Vec::new(alloc)),
             reason: RefCell::new(None),
+            odd: RefCell::new(None),
+            words: Cell::new(Wording {
+                why: false,
+                is_terse: true,
+            }),
         }
     }
 
@@ -141,9 +151,29 @@ impl<'a> HostRoom<'a> {
 
     // Remembers what failed.
     pub(crate) fn remember(&self, name: &str, fault: &io::Error) {
+        if fault.kind() == ErrorKind::IsADirectory {
+            self.note_odd(name, Oddity::Folder);
+        }
         let told = format!(in self.alloc; "{name}: {fault}\n").ok();
         if let Ok(mut reason) = self.reason.try_borrow_mut() {
             *reason = told;
+        }
+    }
+
+    // Something is odd of what is read under a name.
+    pub(crate) fn note_odd(&self, name: &str, oddity: Oddity) {
+        if let Ok(mut odd) = self.odd.try_borrow_mut()
+            && odd.is_none()
+            && let Ok(name) = name.to_string(self.alloc)
+        {
+            *odd = Some(Odd { name, oddity });
+        }
+    }
+
+    pub(crate) fn odd(&self) -> Option<Odd> {
+        match self.odd.try_borrow_mut() {
+            Ok(mut odd) => odd.take(),
+            Err(_) => None,
         }
     }
 

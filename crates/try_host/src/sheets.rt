@@ -3,7 +3,8 @@ use crate::device::{Call, failed};
 use crate::room::HostRoom;
 use files::DiskFile;
 use std::alloc::Global;
-use std::io::{self, Read};
+use std::io::{self, ErrorKind, Read};
+use system::FirstBytes;
 
 /// A file that is read: a read gives what then stands behind what was read.
 #[derive(Drop)]
@@ -12,6 +13,7 @@ pub struct Page<'a> {
     pub(crate) path: String,
     pub(crate) place: usize,
     pub(crate) at: usize,
+    pub(crate) beginning: FirstBytes,
 }
 
 impl Read for Page<'_> {
@@ -27,6 +29,10 @@ impl Read for Page<'_> {
         let count = self.room.reading.count(left.len().min(buf.len()));
         buf[..count].copy_from_slice(&left[..count]);
         self.at = self.at.saturating_add(count);
+        self.beginning.take(&left[..count]);
+        if let Some(oddity) = self.beginning.oddity() {
+            self.room.note_odd(&self.path, oddity);
+        }
         Ok(count)
     }
 }
@@ -94,6 +100,10 @@ impl DiskFile for Sheet<'_> {
         match self.room.files.call() {
             Call::Succeeds => {
                 let count = self.room.files.count(bytes.len());
+                if count == 0 && !bytes.is_empty() {
+                    let fault = io::Error::from(ErrorKind::WriteZero);
+                    self.room.remember(&self.path, &fault);
+                }
                 self.append(&bytes[..count])?;
                 Ok(count)
             }
@@ -113,7 +123,7 @@ impl DiskFile for Sheet<'_> {
 
 // Waits for the disk.
 pub(crate) fn synced(room: &HostRoom<'_>, path: &str) -> io::Result<()> {
-    room.files.check()?;
+    room.noted(path, room.files.check())?;
     room.note("sync", path)
 }
 

@@ -7,5 +7,5 @@ pub returns : goal.returns
 unfolding grammar
 returns c =
     IfOk-weaker c.with_commands.result _ _
-    (λ program built. let all = from_empty _ _ _ _ _ _ _ _ _ _ _ _ _ _ _ _ _ _ _ _ _ _ _ c.empty_program.ensures built in all)
+    (λ program built. let all = from_empty _ _ _ _ _ _ _ _ _ _ _ _ _ _ _ _ _ _ _ _ _ _ _ c.in_ok-empty.ensures built in all)
     c.with_commands.ensures

@@ -1,0 +1,4 @@
+mod Joining
+mod Keeping
+mod Running
+mod Saving

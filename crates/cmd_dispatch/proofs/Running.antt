@@ -1,0 +1,83 @@
+-- What runs and listens over a ledger, or over none.
+use Rattle.std.proofs.Common.{◌≡◌, ◌∙◌, refl, ℕ, List, Option, Some, None, Result, Ok, Err, length}
+use Rattle.std.specs.declared.io.Error.{Error}
+use Rattle.wire.specs.Fulfilled.{Answering}
+use Rattle.peers.specs.Connections.{Taking}
+use Rattle.peers.specs.declared.conduct.Conduct.{Conduct}
+use Rattle.files.specs.Paths.{SameFile, Shelf, IsPut, IsToldStill}
+use Rattle.files.specs.declared.opened.Opened.{Opened}
+use Rattle.cmd_nodes.specs.Listened.{Traffic}
+use Rattle.cmd_options.specs.declared.ended.Ended.{Ended}
+use Rattle.cmd_options.specs.declared.ledger_file.LedgerFile.{LedgerFile}
+use Rattle.cmd_options.specs.declared.options.Beginning.{Beginning}
+use Rattle.cmd_options.specs.declared.options.Listening.{Listening}
+use Rattle.cmd_options.specs.declared.options.Settling.{Settling}
+use Rattle.cmd_options.specs.declared.outcome.Outcome.{Outcome}
+use Rattle.cmd_dispatch.specs.Ends.{Once, Said}
+use Rattle.cmd_dispatch.specs.Kept.{IsNothing, IsOpenedIn}
+use Rattle.cmd_dispatch.specs.Serves.{ServesKept, ServesOver}
+use Rattle.cmd_dispatch.specs.Trees.{Runs, RunsOver, RunsWith}
+use Rattle.cmd_dispatch.proofs.Keeping.{written}
+
+pub ran_kept : {F N : Type 0} (replies : Answering N) (remaining : F → Option (List ℕ)) (tells later : SameFile)
+    (old opened new : Shelf) (file : LedgerFile) (p : Settling) (workers : List N) (held : Result (Opened F) Error)
+    (before after : Option (List ℕ)) (s : Said) (o : Outcome)
+    → RunsOver replies remaining p workers held before after s o → IsToldStill tells later
+    → IsPut later file.path.now after opened new → IsOpenedIn remaining tells old opened file held before
+    → RunsWith replies remaining tells old new p workers (Some file) s o
+ran_kept replies remaining tells later old opened new file p workers held before after s o runs still put is = record {
+  held = held;
+  before = before;
+  after = after;
+  keeps = written remaining tells later old opened new file held before after is still put;
+  runs = runs;
+}
+
+pub ran_alone : {F N : Type 0} (replies : Answering N) (remaining : F → Option (List ℕ)) (tells : SameFile)
+    (old : Shelf) (p : Settling) (workers : List N) (held : Result (Opened F) Error)
+    (before after : Option (List ℕ)) (s : Said) (o : Outcome) → IsNothing remaining held
+    → RunsOver replies remaining p workers held before after s o
+    → RunsWith replies remaining tells old old p workers None s o
+ran_alone replies remaining tells old p workers held before after s o is runs = record {
+  held = held;
+  before = before;
+  after = after;
+  keeps = (refl, is);
+  runs = runs;
+}
+
+pub with_workers : {F N : Type 0} (replies : Answering N) (remaining : F → Option (List ℕ)) (tells : SameFile)
+    (old new : Shelf) (p : Settling) (workers : List N) (given ledger : Option LedgerFile) (s : Said)
+    (ended : Result Outcome Ended) → ledger ≡ given → length workers ≡ p.workers
+    → Once (RunsWith replies remaining tells old new p workers given s) s ended
+    → Once (Runs replies remaining tells old new p ledger s) s ended
+with_workers replies remaining tells old new p workers given ledger s (Ok o) is count runs = (workers, count, rw is runs)
+with_workers replies remaining tells old new p workers given ledger s (Err e) is count same = same
+
+pub served_kept : {F G : Type 0} (remaining : F → Option (List ℕ)) (takes : G → Taking) (passed : G → Traffic)
+    (tells later : SameFile) (shelf opened new_shelf : Shelf) (file : LedgerFile) (b : Beginning) (l : Listening)
+    (conduct : Conduct) (old new : G) (held : Result (Opened F) Error) (before after : Option (List ℕ)) (s : Said)
+    (ended : Result Outcome Ended) → ServesOver remaining takes passed b l conduct old new held before after s ended
+    → IsToldStill tells later → IsPut later file.path.now after opened new_shelf
+    → IsOpenedIn remaining tells shelf opened file held before
+    → ServesKept remaining takes passed tells shelf new_shelf b (Some file) l conduct old new s ended
+served_kept remaining takes passed tells later shelf opened new_shelf file b l conduct old new held before after s ended serves still put is = record {
+  held = held;
+  before = before;
+  after = after;
+  keeps = written remaining tells later shelf opened new_shelf file held before after is still put;
+  serves = serves;
+}
+
+pub served_alone : {F G : Type 0} (remaining : F → Option (List ℕ)) (takes : G → Taking) (passed : G → Traffic)
+    (tells : SameFile) (shelf : Shelf) (b : Beginning) (l : Listening) (conduct : Conduct) (old new : G)
+    (held : Result (Opened F) Error) (before after : Option (List ℕ)) (s : Said) (ended : Result Outcome Ended)
+    → IsNothing remaining held → ServesOver remaining takes passed b l conduct old new held before after s ended
+    → ServesKept remaining takes passed tells shelf shelf b None l conduct old new s ended
+served_alone remaining takes passed tells shelf b l conduct old new held before after s ended is serves = record {
+  held = held;
+  before = before;
+  after = after;
+  keeps = (refl, is);
+  serves = serves;
+}

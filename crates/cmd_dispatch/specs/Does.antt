@@ -1,0 +1,122 @@
+-- What is done that is asked for: of each command what the function says that is called for it.
+use Rattle.std.specs.Prelude.{◌≡◌, ◌⊎◌, ℕ, List, Option, Some, None, Result, Ok, Err}
+use Rattle.machine_text.specs.Packed.{Packed}
+use Rattle.cert.specs.Claim.{Recorded}
+use Rattle.peers.specs.Connections.{Taking}
+use Rattle.wire.specs.Fulfilled.{Answering}
+use Rattle.files.specs.Paths.{SameFile, Shelf}
+use Rattle.cmd_options.specs.Ends.{EndsTold, IsTold}
+use Rattle.cmd_options.specs.declared.ended.Ended.{Ended}
+use Rattle.cmd_options.specs.declared.ledger_file.LedgerFile.{LedgerFile}
+use Rattle.cmd_options.specs.declared.options.Beginning.{Beginning}
+use Rattle.cmd_options.specs.declared.options.Listening.{Listening}
+use Rattle.cmd_options.specs.declared.options.Options.{Options}
+use Rattle.cmd_options.specs.declared.options.Options.TheVariants.{Check, Decide, Explain, Show, Tables, Coord, CoordPart, Work, Run, Loop, Retry, Merge, Carry, Mend, Split, Settle, Walk, Join, Look, Draw, Page, Report}
+use Rattle.cmd_options.specs.declared.outcome.Outcome.{Outcome}
+use Rattle.cmd_options.specs.declared.outcome.Outcome.TheVariants.{Accepted}
+use Rattle.cmd_ledgers.specs.Retry.{AtSomeTime}
+use Rattle.cmd_nodes.specs.Listened.{Traffic}
+use Rattle.find_search.specs.Asked.{known_in}
+use Rattle.cmd_dispatch.specs.Ends.{Input, Said, Always, Once, OnceKept, OnceSaved, output_of}
+use Rattle.cmd_dispatch.specs.Lines.{DoesCheck, DoesDecide, DoesExplain, DoesShow, DoesList, Draws}
+use Rattle.cmd_dispatch.specs.Ledgers.{Locking, Carries, JoinsAsked, LooksUp, Mends, MergesAsked, ReportsAsked, Retries, Settles, Splits}
+use Rattle.cmd_dispatch.specs.Trees.{Coordinates, Runs, WalksBy}
+use Rattle.cmd_dispatch.specs.Serves.{ServesAsked, ServesPart}
+use Rattle.cmd_dispatch.specs.Pages.{Pages}
+
+-- what commands meet: files, by what may be told of two paths, what stands at each, what may come of locking one, and how
+-- what is read of one is known; what deciders may answer, one alone, one that is counted, and one whose answers are saved;
+-- how workers answer; connections, by how they take what is sent, and what passed over them
+pub record Met (H K D C V N F G : Type 0) : Type 1 where
+  pub tells : H → SameFile
+  pub holds : H → Shelf
+  pub locks : Locking K
+  pub remaining : F → Option (List ℕ)
+  pub answers : D → Packed → Recorded → Type 0
+  pub counted : C → Packed → Recorded → Type 0
+  pub saved : V → Packed → Recorded → Type 0
+  pub replies : Answering N
+  pub takes : G → Taking
+  pub passed : G → Traffic
+
+-- a command that leaves all files as they are
+abbrev pub LeavesFiles : {H : Type 0} → H → H → Type 0 → Type 0
+LeavesFiles old new Done = (new ≡ old) × Done
+
+-- workers end well by one outcome
+abbrev pub Works : Result Outcome Ended → Type 0
+Works (Ok o) = o ≡ Accepted
+Works (Err e) = Unit {0}
+
+-- `bb coord` of a whole tree: over its input and output, or over connections
+abbrev pub CoordinatesAsked : {F G : Type 0} → (F → Option (List ℕ)) → (G → Taking) → (G → Traffic) → SameFile → Shelf
+    → Shelf → Beginning → Option LedgerFile → Option Listening → Said → Result Outcome Ended → Type 0
+CoordinatesAsked remaining takes passed tells old new b ledger None s ended =
+    Once (Coordinates remaining tells old new b ledger s) s ended
+CoordinatesAsked remaining takes passed tells old new b ledger (Some listening) s ended =
+    ServesAsked remaining takes passed tells old new b ledger listening s ended
+
+abbrev pub DoesCommand : {H K D C V N F G : Type 0} → Met H K D C V N F G → Options → H → H → Input → Said
+    → Result Outcome Ended → Type 0
+DoesCommand m (Check c) old new i s ended = LeavesFiles old new (DoesCheck c.json c.why i s ended)
+DoesCommand m (Decide d) old new i s ended = LeavesFiles old new (DoesDecide m.counted d.json i s ended)
+DoesCommand m (Explain json) old new i s ended = LeavesFiles old new (DoesExplain json i s ended)
+DoesCommand m (Show showing) old new i s ended = LeavesFiles old new (DoesShow showing i s ended)
+DoesCommand m (Tables listing) old new i s ended = LeavesFiles old new (DoesList listing i s ended)
+DoesCommand m (Draw drawing) old new i s ended = Always (Draws m.tells m.holds drawing old i s) ended
+DoesCommand m (Coord beginning ledger listening) old new i s ended =
+    CoordinatesAsked m.remaining m.takes m.passed (m.tells old) (m.holds old) (m.holds new) beginning ledger listening
+    s ended
+DoesCommand m (CoordPart coordinating) old new i s ended =
+    ServesPart m.takes m.passed (m.tells old) (m.holds old) (m.holds new) coordinating s ended
+DoesCommand m (Work working) old new i s ended = Works ended
+DoesCommand m (Run settling ledger) old new i s ended =
+    Once (Runs m.replies m.remaining (m.tells old) (m.holds old) (m.holds new) settling ledger s) s ended
+DoesCommand m (Loop settling ledger) old new i s ended =
+    Once (Runs m.replies m.remaining (m.tells old) (m.holds old) (m.holds new) settling ledger s) s ended
+DoesCommand m (Retry retrying) old new i s ended = OnceKept (Retries (AtSomeTime _ m.answers) m.locks
+    (m.tells old) retrying
+    (m.holds old) (m.holds new) s) (m.holds old) (m.holds new) s ended
+DoesCommand m (Merge merging) old new i s ended =
+    OnceKept (MergesAsked (m.tells old) merging (m.holds old) (m.holds new) s) (m.holds old) (m.holds new) s ended
+DoesCommand m (Carry carrying) old new i s ended =
+    OnceKept (Carries (m.tells old) carrying (m.holds old) (m.holds new) s) (m.holds old) (m.holds new) s ended
+DoesCommand m (Mend mending) old new i s ended =
+    OnceKept (Mends (m.tells old) mending (m.holds old) (m.holds new) i s) (m.holds old) (m.holds new) s ended
+DoesCommand m (Split splitting) old new i s ended = OnceKept (Splits (AtSomeTime _ m.answers) m.locks
+    (m.tells old) splitting
+    (m.holds old) (m.holds new) s) (m.holds old) (m.holds new) s ended
+DoesCommand m (Settle settling) old new i s ended = Settles (AtSomeTime _ m.answers) m.locks (m.tells old) settling
+    (m.holds old) (m.holds new) s ended
+DoesCommand m (Walk walking) old new i s ended =
+    OnceSaved (λ o. WalksBy m.answers walking s o ⊎ WalksBy m.saved walking s o) s ended
+DoesCommand m (Join joining) old new i s ended = Always (JoinsAsked m.locks (m.tells old) joining (m.holds old)
+    (m.holds new) i s) ended
+DoesCommand m (Look looking) old new i s ended = LeavesFiles old new (LooksUp
+    (m.holds old) looking looking.holdouts i s ended)
+DoesCommand m (Page paging) old new i s ended = LeavesFiles old new (Pages (m.holds old) paging i s ended)
+DoesCommand m (Report reporting) old new i s ended =
+    LeavesFiles old new (Always (ReportsAsked (m.holds old) reporting i s) ended)
+
+-- and how it ends: what was refused of known records is said behind
+pub record DoesKnowing {H K D C V N F G : Type 0} (m : Met H K D C V N F G) (asked : Options) (old new : H) (i : Input)
+    (s : Said) (o : Outcome) : Type 0 where
+  pub ended : Result Outcome Ended
+  pub lines : Option (List ℕ)
+  pub new_lines : Option (List ℕ)
+  pub does : DoesCommand m asked old new i (output_of s.held s.new_held s.faults lines) ended
+  pub unsaid : known_in asked ≡ None → new_lines ≡ lines
+  pub told : EndsTold ended new_lines s.new_faults o
+
+-- where records that were found elsewhere are asked for and can't be read, nothing is done
+pub record KnowsNothing {H : Type 0} (asked : Options) (old new : H) (i : Input) (s : Said) (o : Outcome) : Type 0 where
+  pub wanted : known_in asked ≡ None → ⊥
+  pub files : new ≡ old
+  pub unread : i.new_read ≡ i.read
+  pub unsaid : s.new_held ≡ s.held
+  pub ended : Ended
+  pub told : IsTold ended s.faults s.new_faults o
+
+abbrev pub DoesAsked : {H K D C V N F G : Type 0} → Met H K D C V N F G → Options → H → H → Input → Said → Outcome
+    → Type 0
+DoesAsked m asked old new i s o = DoesKnowing m asked old new i s o ⊎ KnowsNothing asked old new i s o

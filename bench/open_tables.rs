@@ -47,10 +47,10 @@ type Going = fn(&[Record], &str);
 /// The ways, and how docs/SPEED.md calls them. All but the first are measured against the second.
 const WAYS: [(&str, Going, &str); 11] = [
     ("nothing", go::<Nothing>, ""),
-    ("now", go::<Ordered<false, false>>, "a map of open tables, as now: two searches a child"),
+    ("twice", go::<Ordered<false, false>>, "a map of open tables: two searches a child, tables compared by bytes"),
     ("once", go::<Ordered<false, true>>, "the same, one search a child"),
-    ("words", go::<Ordered<true, false>>, "as now, tables compared by words of eight bytes"),
-    ("once-words", go::<Ordered<true, true>>, "both: one search a child, by words"),
+    ("words", go::<Ordered<true, false>>, "two searches, tables compared by words of eight bytes"),
+    ("once-words", go::<Ordered<true, true>>, "one search a child, by words: as the program does"),
     ("hash", go::<Unordered>, "a hash map, which has no order"),
     ("parents", go::<Parents<true>>, "a map of parents with bits of their children; parents by a run"),
     ("tried", go::<Parents<false>>, "the same; each table that may be the parent is looked for"),
@@ -78,16 +78,16 @@ fn answered(arguments: &[&str]) -> (f64, String) {
 }
 
 fn compare(ledger: &str, count: f64) {
-    println!("| open tables | instructions a record | to now | bytes a record | to now | a table listed |\n|{}", "---|".repeat(6));
+    println!("| open tables | instructions a record | to the first | bytes a record | to the first | a table listed |\n|{}", "---|".repeat(6));
     let nothing = counted(&[ledger, "nothing"]);
-    let mut now = None;
+    let mut first = None;
     for (name, _, words) in &WAYS[1..] {
         let (bytes, open) = answered(&[ledger, name, "sum"]);
         let plain = counted(&[ledger, name]);
         let many: f64 = open.split(' ').next().and_then(|many| many.parse().ok()).expect("a number");
         let listed = (counted(&[ledger, name, "list"]) - plain) / many;
         let (taken, bytes) = ((plain - nothing) / count, bytes / count);
-        let (first_taken, first_bytes, same) = now.get_or_insert((taken, bytes, open.clone())).clone();
+        let (first_taken, first_bytes, same) = first.get_or_insert((taken, bytes, open.clone())).clone();
         assert_eq!(open, same, "other tables are open");
         println!("| {words} | {taken:.0} | {:.2} | {bytes:.1} | {:.2} | {listed:.0} |", taken / first_taken, bytes / first_bytes);
     }

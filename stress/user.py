@@ -95,6 +95,12 @@ WRONG = [
     ("decide --steps 1,000", "1,000"),
     ("decide --known -", "--known"),
     ("decide --gram 9", "0..=8"),
+    ("decide --run 0", "1..=10000000000"),
+    ("decide --keep --json", "--json"),
+    ("explain --dot --json", "--json"),
+    ("explain --json --run 5", "--run"),
+    ("explain --dot --run 5", "--run"),
+    ("show --align --fold", "--fold"),
     ("draw --rows 0", "1..=10000"),
     ("draw --png --height 9", "--height"),
     ("split two 3", "two"),
@@ -335,6 +341,10 @@ GIVEN = [
     ("bb check '1RB1LB_1LA--- H 6 4'", 0, "1RB1LB_1LA--- halts 6 ones 4\n", ""),
     ("bb decide --input kept --lenient", 0, "1RB1LB_1LA--- H 6 4\n0RA--- T 0 1 R\n", ""),
     ("bb decide --lenient < kept", 0, "1RB1LB_1LA--- H 6 4\n0RA--- T 0 1 R\n", ""),
+    ("bb decide --keep 1RB1LB_1LA1RZ", 0, "1RB1LB_1LA1RZ H 6 4\n", ""),
+    ("bb decide --run 6 1RB1LB_1LA---", 0, "1RB1LB_1LA--- H 6 4\n", ""),
+    ("bb decide --run 5 1RB1LB_1LA---", 0, "1RB1LB_1LA--- U\n", ""),
+    ("bb show --align --steps 1 1RB1LB_1LA---", 0, "1RB1LB_1LA---\n0  A>..\n1  1B>.\n", ""),
     ("bb decide --steps 1_000 --input tables.txt", 1, "1RB1LB_1LA--- H 6 4\nrefused 301 104 1\n", ""),
     ("bb decide --steps 1e3 --why < tables.txt", 1, "1RB1LB_1LA--- H 6 4\nrefused 301 104 1\n", "line 2: its letters are in lower case\n"),
     ("echo 1RB2LA1RA_2LA1LB--- | bb decide --why", 1, "refused 301 101\n", "line 1: it is like a table of 3 symbols, and bb's have 2\n"),
@@ -363,6 +373,10 @@ def given(tries):
     _, said, _ = tries.run(f"bb tables < {tables} | bb decide --far 3 | bb explain")
     tries.expect("The first automaton (state: next on 0, next on 1):" in said, "bb explain shows no automaton")
     tries.expect("words" in said.lower(), "bb explain shows no words")
+    _, said, _ = tries.run(f"bb tables < {tables} | bb decide --far 3 | bb explain --dot")
+    tries.expect(re.search(r"^digraph .*\{$", said, re.MULTILINE), "bb explain --dot draws no automaton")
+    _, said, _ = tries.run("bb explain --run 64 1RB0LB_1LA1RB")
+    tries.expect("\nSeen in 64 steps, not proved:\n" in said, "bb explain --run doesn't say what is seen")
 
 
 def cluster(tries):

@@ -1,10 +1,11 @@
 -- The ledger of a command, from before it is opened until it is let go.
-use Rattle.std.proofs.Common.{◌∙◌, ℕ, List, Option, Result, false, inl, inr}
+use Rattle.std.proofs.Common.{◌∙◌, refl, subst, sym, ℕ, List, Option, Some, None, Result, false, inl, inr}
 use Rattle.std.specs.declared.io.Error.{Error}
-use Rattle.files.specs.Paths.{SameFile, Shelf, IsKeptBut, IsLedgerAt, IsOpenedOn, IsPut, IsToldStill}
+use Rattle.files.specs.Paths.{Known, SameFile, Shelf, IsFileAt, IsKept, IsKeptBut, IsLedgerAt, IsOpenedOn, IsPut, IsToldStill}
 use Rattle.files.specs.declared.opened.Opened.{Opened}
 use Rattle.cmd_options.specs.declared.ledger_file.LedgerFile.{LedgerFile}
-use Rattle.cmd_dispatch.specs.Kept.{IsContinued, IsHeldIn, IsMadeSure, IsOpenedIn, IsLedgerWritten}
+use Rattle.cmd_options.specs.declared.options.Saving.{Saving}
+use Rattle.cmd_dispatch.specs.Kept.{IsContinued, IsHeldIn, IsMadeSure, IsOpenedIn, IsLedgerWritten, ChangesSaved, LeavesUnbegun}
 
 -- where a file is made sure of, no other changes
 made_alone : (tells : SameFile) (path : List ℕ) (old made : Shelf) → IsMadeSure tells path old made
@@ -13,10 +14,33 @@ made_alone tells path old made (inl kept) = λ other apart. kept other
 made_alone tells path old made (inr (text, held, put)) = put.others
 
 -- nor where that is then changed, by what is told later
-kept_then : (tells later : SameFile) (path : List ℕ) (old made new : Shelf) → IsKeptBut tells path old made
+pub kept_then : (tells later : SameFile) (path : List ℕ) (old made new : Shelf) → IsKeptBut tells path old made
     → IsToldStill tells later → IsKeptBut later path made new → IsKeptBut tells path old new
 kept_then tells later path old made new first still second = λ other apart.
     second other (still path other false apart) ∙ first other apart
+
+-- what is made sure of stays so while nothing changes
+pub made_still : (tells : SameFile) (path : List ℕ) (old made new : Shelf) → IsMadeSure tells path old made
+    → IsKept made new → IsMadeSure tells path old new
+made_still tells path old made new (inl kept) same = inl (λ other. same other ∙ kept other)
+made_still tells path old made new (inr (text, held, put)) same = inr (
+  text,
+  held,
+  record {
+    at = subst (λ (known : Known). IsFileAt known text) (sym (same path)) put.at;
+    others = λ other apart. same other ∙ put.others other apart;
+  },
+)
+
+-- before a ledger is opened nothing has changed
+pub not_begun : (tells : SameFile) (shelf : Shelf) (ledger : Option LedgerFile) → LeavesUnbegun tells shelf shelf ledger
+not_begun tells shelf None = λ path. refl
+not_begun tells shelf (Some file) = inl (λ path. refl)
+
+-- before records are saved nothing has changed
+pub not_saved : (tells : SameFile) (shelf : Shelf) (saving : Option Saving) → ChangesSaved tells saving shelf shelf
+not_saved tells shelf None = λ path. refl
+not_saved tells shelf (Some saving) = λ other apart. refl
 
 pub opened_in : {F : Type 0} (remaining : F → Option (List ℕ)) (tells later : SameFile) (old made new : Shelf)
     (file : LedgerFile) (held : Result (Opened F) Error) (text : Option (List ℕ))

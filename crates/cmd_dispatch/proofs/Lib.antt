@@ -1,3 +1,4 @@
+mod Calling
 mod Joining
 mod Keeping
 mod Running

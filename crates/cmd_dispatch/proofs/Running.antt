@@ -13,8 +13,8 @@ use Rattle.cmd_options.specs.declared.options.Beginning.{Beginning}
 use Rattle.cmd_options.specs.declared.options.Listening.{Listening}
 use Rattle.cmd_options.specs.declared.options.Settling.{Settling}
 use Rattle.cmd_options.specs.declared.outcome.Outcome.{Outcome}
-use Rattle.cmd_dispatch.specs.Ends.{Once, Said}
-use Rattle.cmd_dispatch.specs.Kept.{IsNothing, IsOpenedIn}
+use Rattle.cmd_dispatch.specs.Ends.{OnceLeaving, Said}
+use Rattle.cmd_dispatch.specs.Kept.{IsNothing, IsOpenedIn, LeavesUnbegun}
 use Rattle.cmd_dispatch.specs.Serves.{ServesKept, ServesOver}
 use Rattle.cmd_dispatch.specs.Trees.{Runs, RunsOver, RunsWith}
 use Rattle.cmd_dispatch.proofs.Keeping.{written}
@@ -49,10 +49,10 @@ ran_alone replies remaining tells old p workers held before after s o is runs = 
 pub with_workers : {F N : Type 0} (replies : Answering N) (remaining : F → Option (List ℕ)) (tells : SameFile)
     (old new : Shelf) (p : Settling) (workers : List N) (given ledger : Option LedgerFile) (s : Said)
     (ended : Result Outcome Ended) → ledger ≡ given → length workers ≡ p.workers
-    → Once (RunsWith replies remaining tells old new p workers given s) s ended
-    → Once (Runs replies remaining tells old new p ledger s) s ended
+    → OnceLeaving (RunsWith replies remaining tells old new p workers given s) (LeavesUnbegun tells old new given) s ended
+    → OnceLeaving (Runs replies remaining tells old new p ledger s) (LeavesUnbegun tells old new ledger) s ended
 with_workers replies remaining tells old new p workers given ledger s (Ok o) is count runs = (workers, count, rw is runs)
-with_workers replies remaining tells old new p workers given ledger s (Err e) is count same = same
+with_workers replies remaining tells old new p workers given ledger s (Err e) is count same = (same.0, rw is same.1)
 
 pub served_kept : {F G : Type 0} (remaining : F → Option (List ℕ)) (takes : G → Taking) (passed : G → Traffic)
     (tells later : SameFile) (shelf opened new_shelf : Shelf) (file : LedgerFile) (b : Beginning) (l : Listening)

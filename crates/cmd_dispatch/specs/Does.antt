@@ -13,21 +13,23 @@ use Rattle.cmd_options.specs.declared.options.Listening.{Listening}
 use Rattle.cmd_options.specs.declared.options.Options.{Options}
 use Rattle.cmd_options.specs.declared.options.Options.TheVariants.{Check, Decide, Explain, Show, Tables, Coord, CoordPart, Work, Run, Loop, Retry, Merge, Carry, Mend, Split, Settle, Walk, Join, Look, Draw, Page, Report}
 use Rattle.cmd_options.specs.declared.outcome.Outcome.{Outcome}
-use Rattle.cmd_options.specs.declared.outcome.Outcome.TheVariants.{Accepted}
 use Rattle.cmd_ledgers.specs.Retry.{AtSomeTime}
 use Rattle.cmd_nodes.specs.Listened.{Traffic}
 use Rattle.find_search.specs.Asked.{known_in}
-use Rattle.cmd_dispatch.specs.Ends.{Input, Said, Always, Once, OnceKept, OnceSaved, output_of}
+use Rattle.cmd_dispatch.specs.Ends.{Input, Said, Always, OnceKept, OnceLeaving, OnceSaved, output_of}
 use Rattle.cmd_dispatch.specs.Lines.{DoesCheck, DoesDecide, DoesExplain, DoesShow, DoesList, Draws}
+use Rattle.cmd_dispatch.specs.Kept.{ChangesSaved, LeavesUnbegun}
 use Rattle.cmd_dispatch.specs.Ledgers.{Locking, Carries, JoinsAsked, LooksUp, Mends, MergesAsked, ReportsAsked, Retries, Settles, Splits}
 use Rattle.cmd_dispatch.specs.Trees.{Coordinates, Runs, WalksBy}
 use Rattle.cmd_dispatch.specs.Serves.{ServesAsked, ServesPart}
 use Rattle.cmd_dispatch.specs.Pages.{Pages}
+use Rattle.cmd_dispatch.specs.Works.{Works}
 
 -- what commands meet: files, by what may be told of two paths, what stands at each, what may come of locking one, and how
 -- what is read of one is known; what deciders may answer, one alone, one that is counted, and one whose answers are saved;
--- how workers answer; connections, by how they take what is sent, and what passed over them
-pub record Met (H K D C V N F G : Type 0) : Type 1 where
+-- how workers answer; connections, by how they take what is sent, and what passed over them; and who calls a coordinator, by
+-- how often he has
+pub record Met (H K D C V N F G W : Type 0) : Type 1 where
   pub tells : H → SameFile
   pub holds : H → Shelf
   pub locks : Locking K
@@ -38,42 +40,40 @@ pub record Met (H K D C V N F G : Type 0) : Type 1 where
   pub replies : Answering N
   pub takes : G → Taking
   pub passed : G → Traffic
+  pub calls : W → ℕ
 
 -- a command that leaves all files as they are
 abbrev pub LeavesFiles : {H : Type 0} → H → H → Type 0 → Type 0
 LeavesFiles old new Done = (new ≡ old) × Done
 
--- workers end well by one outcome
-abbrev pub Works : Result Outcome Ended → Type 0
-Works (Ok o) = o ≡ Accepted
-Works (Err e) = Unit {0}
-
 -- `bb coord` of a whole tree: over its input and output, or over connections
 abbrev pub CoordinatesAsked : {F G : Type 0} → (F → Option (List ℕ)) → (G → Taking) → (G → Traffic) → SameFile → Shelf
     → Shelf → Beginning → Option LedgerFile → Option Listening → Said → Result Outcome Ended → Type 0
 CoordinatesAsked remaining takes passed tells old new b ledger None s ended =
-    Once (Coordinates remaining tells old new b ledger s) s ended
+    OnceLeaving (Coordinates remaining tells old new b ledger s) (LeavesUnbegun tells old new ledger) s ended
 CoordinatesAsked remaining takes passed tells old new b ledger (Some listening) s ended =
     ServesAsked remaining takes passed tells old new b ledger listening s ended
 
-abbrev pub DoesCommand : {H K D C V N F G : Type 0} → Met H K D C V N F G → Options → H → H → Input → Said
+abbrev pub DoesCommand : {H K D C V N F G W : Type 0} → Met H K D C V N F G W → Options → H → H → Input → Said
     → Result Outcome Ended → Type 0
 DoesCommand m (Check c) old new i s ended = LeavesFiles old new (DoesCheck c.json c.why i s ended)
-DoesCommand m (Decide d) old new i s ended = LeavesFiles old new (DoesDecide m.counted d.json i s ended)
-DoesCommand m (Explain json) old new i s ended = LeavesFiles old new (DoesExplain json i s ended)
+DoesCommand m (Decide d) old new i s ended = LeavesFiles old new (DoesDecide m.counted d.json d.keep i s ended)
+DoesCommand m (Explain explaining) old new i s ended = LeavesFiles old new (DoesExplain explaining i s ended)
 DoesCommand m (Show showing) old new i s ended = LeavesFiles old new (DoesShow showing i s ended)
 DoesCommand m (Tables listing) old new i s ended = LeavesFiles old new (DoesList listing i s ended)
-DoesCommand m (Draw drawing) old new i s ended = Always (Draws m.tells m.holds drawing old i s) ended
+DoesCommand m (Draw drawing) old new i s ended = Always (Draws m.tells m.holds drawing old new i s) ended
 DoesCommand m (Coord beginning ledger listening) old new i s ended =
     CoordinatesAsked m.remaining m.takes m.passed (m.tells old) (m.holds old) (m.holds new) beginning ledger listening
     s ended
 DoesCommand m (CoordPart coordinating) old new i s ended =
     ServesPart m.takes m.passed (m.tells old) (m.holds old) (m.holds new) coordinating s ended
-DoesCommand m (Work working) old new i s ended = Works ended
+DoesCommand m (Work working) old new i s ended = Works m.calls working i s ended
 DoesCommand m (Run settling ledger) old new i s ended =
-    Once (Runs m.replies m.remaining (m.tells old) (m.holds old) (m.holds new) settling ledger s) s ended
+    OnceLeaving (Runs m.replies m.remaining (m.tells old) (m.holds old) (m.holds new) settling ledger s)
+    (LeavesUnbegun (m.tells old) (m.holds old) (m.holds new) ledger) s ended
 DoesCommand m (Loop settling ledger) old new i s ended =
-    Once (Runs m.replies m.remaining (m.tells old) (m.holds old) (m.holds new) settling ledger s) s ended
+    OnceLeaving (Runs m.replies m.remaining (m.tells old) (m.holds old) (m.holds new) settling ledger s)
+    (LeavesUnbegun (m.tells old) (m.holds old) (m.holds new) ledger) s ended
 DoesCommand m (Retry retrying) old new i s ended = OnceKept (Retries (AtSomeTime _ m.answers) m.locks
     (m.tells old) retrying
     (m.holds old) (m.holds new) s) (m.holds old) (m.holds new) s ended
@@ -89,7 +89,8 @@ DoesCommand m (Split splitting) old new i s ended = OnceKept (Splits (AtSomeTime
 DoesCommand m (Settle settling) old new i s ended = Settles (AtSomeTime _ m.answers) m.locks (m.tells old) settling
     (m.holds old) (m.holds new) s ended
 DoesCommand m (Walk walking) old new i s ended =
-    OnceSaved (λ o. WalksBy m.answers walking s o ⊎ WalksBy m.saved walking s o) s ended
+    ChangesSaved (m.tells old) walking.saving (m.holds old) (m.holds new)
+    × OnceSaved (λ o. WalksBy m.answers walking s o ⊎ WalksBy m.saved walking s o) s ended
 DoesCommand m (Join joining) old new i s ended = Always (JoinsAsked m.locks (m.tells old) joining (m.holds old)
     (m.holds new) i s) ended
 DoesCommand m (Look looking) old new i s ended = LeavesFiles old new (LooksUp
@@ -99,8 +100,8 @@ DoesCommand m (Report reporting) old new i s ended =
     LeavesFiles old new (Always (ReportsAsked (m.holds old) reporting i s) ended)
 
 -- and how it ends: what was refused of known records is said behind
-pub record DoesKnowing {H K D C V N F G : Type 0} (m : Met H K D C V N F G) (asked : Options) (old new : H) (i : Input)
-    (s : Said) (o : Outcome) : Type 0 where
+pub record DoesKnowing {H K D C V N F G W : Type 0} (m : Met H K D C V N F G W) (asked : Options) (old new : H)
+    (i : Input) (s : Said) (o : Outcome) : Type 0 where
   pub ended : Result Outcome Ended
   pub lines : Option (List ℕ)
   pub new_lines : Option (List ℕ)
@@ -117,6 +118,6 @@ pub record KnowsNothing {H : Type 0} (asked : Options) (old new : H) (i : Input)
   pub ended : Ended
   pub told : IsTold ended s.faults s.new_faults o
 
-abbrev pub DoesAsked : {H K D C V N F G : Type 0} → Met H K D C V N F G → Options → H → H → Input → Said → Outcome
+abbrev pub DoesAsked : {H K D C V N F G W : Type 0} → Met H K D C V N F G W → Options → H → H → Input → Said → Outcome
     → Type 0
 DoesAsked m asked old new i s o = DoesKnowing m asked old new i s o ⊎ KnowsNothing asked old new i s o

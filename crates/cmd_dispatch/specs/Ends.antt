@@ -80,10 +80,14 @@ abbrev pub Once : (Outcome → Type 0) → Said → Result Outcome Ended → Typ
 Once Ends s (Ok o) = Ends o
 Once Ends s (Err e) = s.new_held ≡ s.held
 
+-- and leaves this
+abbrev pub OnceLeaving : (Outcome → Type 0) → Type 0 → Said → Result Outcome Ended → Type 0
+OnceLeaving Ends Leaves s (Ok o) = Ends o
+OnceLeaving Ends Leaves s (Err e) = (s.new_held ≡ s.held) × Leaves
+
 -- and leaves what stands at each path
 abbrev pub OnceKept : (Outcome → Type 0) → Shelf → Shelf → Said → Result Outcome Ended → Type 0
-OnceKept Ends old new s (Ok o) = Ends o
-OnceKept Ends old new s (Err e) = (s.new_held ≡ s.held) × (new ≡ old)
+OnceKept Ends old new s ended = OnceLeaving Ends (new ≡ old) s ended
 
 -- or, where records that were found can't be saved, ends the command behind its answer
 abbrev pub OnceSaved : (Outcome → Type 0) → Said → Result Outcome Ended → Type 0

@@ -5,11 +5,22 @@ use Rattle.files.specs.Opened.{IsLedgerOn}
 use Rattle.files.specs.Paths.{SameFile, Shelf, IsFileAt, IsKept, IsKeptBut, IsLedgerAt, IsOpenedOn}
 use Rattle.files.specs.declared.opened.Opened.{Opened}
 use Rattle.cmd_options.specs.declared.ledger_file.LedgerFile.{LedgerFile}
+use Rattle.cmd_options.specs.declared.options.Saving.{Saving}
 use Rattle.cmd_parts.specs.AtPaths.{IsCreated}
 
 -- there is a file at a path, or nothing has changed at any
 abbrev pub IsMadeSure : SameFile → List ℕ → Shelf → Shelf → Type 0
 IsMadeSure tells path old new = IsKept old new ⊎ IsCreated tells path old new
+
+-- what a command leaves that ends before it begins: nothing has changed at any path, except that its ledger may be there
+abbrev pub LeavesUnbegun : SameFile → Shelf → Shelf → Option LedgerFile → Type 0
+LeavesUnbegun tells old new None = IsKept old new
+LeavesUnbegun tells old new (Some file) = IsMadeSure tells file.path.now old new
+
+-- no file changes but the one to which records are saved
+abbrev pub ChangesSaved : SameFile → Option Saving → Shelf → Shelf → Type 0
+ChangesSaved tells None old new = IsKept old new
+ChangesSaved tells (Some saving) old new = IsKeptBut tells saving.path.now old new
 
 -- what is read of the ledger that a command line names
 abbrev pub IsHeldIn : {F : Type 0} → (F → Option (List ℕ)) → Shelf → LedgerFile → Result (Opened F) Error → Type 0

@@ -3,7 +3,7 @@ use Rattle.std.specs.Prelude.{◌^◌, ◌-◌, ◌≡◌, ◌⊎◌, ℕ, Bool,
 use Rattle.std.specs.Borrow.{Bor}
 use Rattle.machine_text.specs.Packed.{Packed}
 use Rattle.cert.specs.Claim.{Recorded}
-use Rattle.files.specs.Paths.{SameFile, Shelf, IsKeptBut}
+use Rattle.files.specs.Paths.{SameFile, Shelf, IsKept, IsKeptBut}
 use Rattle.cmd_options.specs.Ends.{EndsTold}
 use Rattle.cmd_options.specs.declared.ended.Ended.{Ended}
 use Rattle.cmd_options.specs.declared.ended.Ended.TheVariants.{NoMemory}
@@ -120,7 +120,7 @@ JoinsFolder locks tells j old new s o = (lines new_lines : Option (List ℕ))
 
 abbrev pub JoinsAsked : {K : Type 0} → Locking K → SameFile → Joining → Shelf → Shelf → Input → Said → Outcome → Type 0
 JoinsAsked locks tells j old new i s o =
-    ByPath j.folder.now (JoinsRead j i s o) (JoinsFolder locks tells j old new s o)
+    ByPath j.folder.now (JoinsRead j i s o × IsKept old new) (JoinsFolder locks tells j old new s o)
 
 -- `bb look`
 abbrev pub LooksUp : Shelf → Looking → Bool → Input → Said → Result Outcome Ended → Type 0

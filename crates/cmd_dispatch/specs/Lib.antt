@@ -5,4 +5,5 @@ pub mod Ledgers
 pub mod Trees
 pub mod Pages
 pub mod Serves
+pub mod Works
 pub mod Does

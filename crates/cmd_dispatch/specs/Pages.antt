@@ -27,9 +27,14 @@ abbrev pub IsBehindSlash : List ℕ → List ℕ → Type 0
 IsBehindSlash path name = (RFindsChar 47 path None × (name ≡ path))
     ⊎ ((folder : List ℕ) × SplitsAroundMatch (RFindsChar 47) path folder name)
 
+-- a path without the slash that it ends in, if it does
+abbrev pub IsWithoutSlash : List ℕ → List ℕ → Type 0
+IsWithoutSlash path plain =
+    (((front : List ℕ) → path ≡ front ++ codes "/" → ⊥) × (plain ≡ path)) ⊎ (path ≡ plain ++ codes "/")
+
 -- the name of what stands at a path, which may end in a slash
 abbrev pub IsNameAt : List ℕ → List ℕ → Type 0
-IsNameAt path name = (plain : List ℕ) × ((plain ≡ path) ⊎ (path ≡ plain ++ codes "/")) × IsBehindSlash plain name
+IsNameAt path name = (plain : List ℕ) × IsWithoutSlash path plain × IsBehindSlash plain name
 
 -- the title that is asked for, or else this
 abbrev pub IsTitle : Option (Bor (List ℕ)) → List ℕ → List ℕ → Type 0

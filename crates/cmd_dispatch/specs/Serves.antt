@@ -1,7 +1,7 @@
 -- `bb coord --listen`.
 use Rattle.std.specs.Prelude.{◌≡◌, ◌⊎◌, ℕ, Bool, true, false, List, Option, IfNone, OnErr, Result, Ok, Err}
 use Rattle.std.specs.declared.io.Error.{Error}
-use Rattle.files.specs.Paths.{SameFile, Shelf}
+use Rattle.files.specs.Paths.{SameFile, Shelf, IsKept}
 use Rattle.files.specs.declared.opened.Opened.{Opened}
 use Rattle.peers.specs.Connections.{Incoming, Taking}
 use Rattle.peers.specs.declared.conduct.Conduct.{Conduct}
@@ -17,21 +17,21 @@ use Rattle.cmd_nodes.specs.Listened.{ListensUntil, Traffic}
 use Rattle.cmd_nodes.specs.Served.{IsBegunFrom}
 use Rattle.cmd_nodes.specs.Settled.{IsBegunOfPart, IsSettledBoard, SettlesPart}
 use Rattle.cmd_dispatch.specs.Ends.{Said}
-use Rattle.cmd_dispatch.specs.Kept.{IsContinued, KeepsLedgerOf}
+use Rattle.cmd_dispatch.specs.Kept.{IsContinued, KeepsLedgerOf, LeavesUnbegun}
 
 -- who may hand in holdouts: anyone where that is asked for; where it isn't, nobody without a token
 abbrev pub IsConductOf : Listening → Conduct → Type 0
 IsConductOf l conduct = (l.accept_holdouts ≡ true → conduct.takes_holdouts ≡ true)
     × (l.accept_holdouts ≡ false → IfNone l.token (conduct.takes_holdouts ≡ false))
 
--- it can't listen, or not write its ledger: no answer is said
-abbrev pub ListensNever : Said → Result Outcome Ended → Type 0
-ListensNever s ended = (e : Ended) × (ended ≡ Err e) × (s.new_held ≡ s.held)
+-- it can't listen, or not write its ledger: no answer is said, and this is left
+abbrev pub ListensNever : Type 0 → Said → Result Outcome Ended → Type 0
+ListensNever Leaves s ended = (e : Ended) × (ended ≡ Err e) × (s.new_held ≡ s.held) × Leaves
 
 -- it is begun, and ends so; or it can't be begun
-abbrev pub EndsBegun : (Result Outcome Ended → Type 0) → Said → Result (Result Outcome Ended) Ended → Type 0
-EndsBegun Ends s (Ok ended) = Ends ended
-EndsBegun Ends s (Err e) = s.new_held ≡ s.held
+abbrev pub EndsBegun : (Result Outcome Ended → Type 0) → Type 0 → Said → Result (Result Outcome Ended) Ended → Type 0
+EndsBegun Ends Leaves s (Ok ended) = Ends ended
+EndsBegun Ends Leaves s (Err e) = (s.new_held ≡ s.held) × Leaves
 
 -- a coordinator of a tree listens to what comes over some connections, over a ledger that held this, and its text before
 -- and behind
@@ -62,7 +62,8 @@ ServesTree {F} {G} remaining takes passed tells shelf new_shelf b ledger l s end
 abbrev pub ServesAsked : {F G : Type 0} → (F → Option (List ℕ)) → (G → Taking) → (G → Traffic) → SameFile → Shelf
     → Shelf → Beginning → Option LedgerFile → Listening → Said → Result Outcome Ended → Type 0
 ServesAsked remaining takes passed tells shelf new_shelf b ledger l s ended =
-    ListensNever s ended ⊎ ServesTree remaining takes passed tells shelf new_shelf b ledger l s ended
+    ListensNever (LeavesUnbegun tells shelf new_shelf ledger) s ended
+    ⊎ ServesTree remaining takes passed tells shelf new_shelf b ledger l s ended
 
 -- and one of a part, whose ledger is there
 abbrev pub ServesHeld : {G : Type 0} → (G → Taking) → (G → Traffic) → PartCoordinating → Conduct → G → G
@@ -82,4 +83,4 @@ ServesLedger {G} takes passed tells shelf new_shelf c s ended = (old new : G) ×
 abbrev pub ServesPart : {G : Type 0} → (G → Taking) → (G → Traffic) → SameFile → Shelf → Shelf → PartCoordinating
     → Said → Result Outcome Ended → Type 0
 ServesPart takes passed tells shelf new_shelf c s ended =
-    ListensNever s ended ⊎ ServesLedger takes passed tells shelf new_shelf c s ended
+    ListensNever (IsKept shelf new_shelf) s ended ⊎ ServesLedger takes passed tells shelf new_shelf c s ended

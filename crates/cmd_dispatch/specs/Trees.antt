@@ -18,7 +18,7 @@ use Rattle.cmd_options.specs.declared.outcome.Outcome.TheVariants.{Accepted}
 use Rattle.cmd_json.specs.Forms.{IsText, form_of}
 use Rattle.cmd_ledgers.specs.Settled.{SettlesTree}
 use Rattle.cmd_nodes.specs.Settled.{CoordinatesTree, IsRunBoard, IsServedBoard}
-use Rattle.cmd_parts.specs.Walking.{AreAnswers, WalksTree}
+use Rattle.cmd_parts.specs.Walking.{IsWalkedBoard, WalksTree}
 use Rattle.cmd_dispatch.specs.Ends.{Said, EndsLate, ToldApart, ToldBehind}
 use Rattle.cmd_dispatch.specs.Kept.{KeepsLedgerOf}
 
@@ -63,4 +63,4 @@ IsRootOf w root = IfNone w.root (root ≡ empty_table w.states)
 -- `bb walk`
 abbrev pub WalksBy : {D : Type 0} → (D → Packed → Recorded → Type 0) → Walking → Said → Outcome → Type 0
 WalksBy {D} answers w s o = (root : Packed) × IsRootOf w root × EndsLate (ToldApart
-    (WalksTree (IsText (form_of w.json)) root (AreAnswers D answers) s.held s.new_held)) o
+    (WalksTree (IsText (form_of w.json)) root (IsWalkedBoard D answers) s.held s.new_held)) o

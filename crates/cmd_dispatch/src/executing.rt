@@ -54,6 +54,7 @@ pub fn execute<
       replies = ⟦<Worker<Finders<AnyFinder<'static>>> as Node>⟧.answers;
       takes = S.Connections.takes;
       passed = λ c. traffic (S.Connections.arrived c) (S.Connections.sent c);
+      calls = S.Caller.calls;
     }) asked.entry files.old files.new (input_of (R.remaining input.old)
         (R.remaining input.new)) (output_of (W.contents answers.old) (W.contents answers.new) (E.contents faults.old)
         (E.contents faults.new)) result }
@@ -94,6 +95,7 @@ fn executed<
       replies = ⟦<Worker<Finders<AnyFinder<'static>>> as Node>⟧.answers;
       takes = S.Connections.takes;
       passed = λ c. traffic (S.Connections.arrived c) (S.Connections.sent c);
+      calls = S.Caller.calls;
     }) asked.entry files.old files.new (input_of (R.remaining input.old)
         (R.remaining input.new)) (output_of (W.contents answers.old) (W.contents answers.new) (E.contents faults.old)
         (E.contents faults.new)) result }
@@ -138,6 +140,7 @@ fn done<S: Disk + Clock + Sockets + Network + ReadingTold, H: Files, R: Read, W:
       replies = ⟦<Worker<Finders<AnyFinder<'static>>> as Node>⟧.answers;
       takes = S.Connections.takes;
       passed = λ c. traffic (S.Connections.arrived c) (S.Connections.sent c);
+      calls = S.Caller.calls;
     }) asked.entry files.old files.new (input_of (R.remaining input.old)
         (R.remaining input.new)) (output_of (W.contents answers.old) (W.contents answers.new) (E.contents faults.old)
         (E.contents faults.new)) result }
@@ -145,7 +148,9 @@ fn done<S: Disk + Clock + Sockets + Network + ReadingTold, H: Files, R: Read, W:
     match asked {
         Options::Check(checking) => lines::check(call, checking, input, answers, faults),
         Options::Decide(deciding) => lines::decide(call, &deciding, input, answers, faults),
-        Options::Explain { json } => texts::explain(call.alloc, json, input, answers, faults),
+        Options::Explain(explaining) => {
+            texts::explain(call.alloc, explaining, input, answers, faults)
+        }
         Options::Show(showing) => texts::show(call.alloc, &showing, input, answers, faults),
         Options::Tables(listing) => texts::tables(call.alloc, &listing, input, answers, faults),
         Options::Draw(drawing) => pictures::draw(

@@ -1,5 +1,5 @@
 // The ledger of a command, while it is written.
-ghost use Rattle.std.specs.Prelude.{IfOk};
+ghost use Rattle.std.specs.Prelude.{IfOk, OnErr};
 ghost use Rattle.files.specs.Opened.{held_bytes};
 ghost use Rattle.files.specs.Paths.{IsToldStill};
 ghost use Rattle.cmd_dispatch.specs.Kept.{IsMadeSure, IsNothing, IsOpenedIn};
@@ -18,11 +18,13 @@ pub(crate) struct Kept<H: Files> {
 
 impl<H: Files> Kept<H> {
     // In a file, which is begun where it isn't there.
-    #[tactic(auto, using(crate::proofs::Keeping::opened_in))]
+    #[tactic(auto, using(crate::proofs::Keeping::opened_in, crate::proofs::Keeping::made_still))]
     pub fn at(files: &mut H, file: LedgerFile<'_>) -> Result<Kept<H>, Ended>
         ensures opened { IfOk result (λ kept. IsOpenedIn (held_bytes H.Reader.remaining) (H.tells_same files.old)
             (H.holds files.old) (H.holds files.new) file.entry kept.held (H.Ledger.text kept.ledger)) }
         ensures tells { IsToldStill (H.tells_same files.old) (H.tells_same files.new) }
+        ensures err { OnErr result (IsMadeSure (H.tells_same files.old) file.entry.path.now (H.holds files.old)
+            (H.holds files.new)) }
     {
         let lock = lock_begun(files, file.path)?;
         let held = held_at(files, file.path);

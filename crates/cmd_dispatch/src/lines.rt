@@ -1,20 +1,24 @@
 // `bb check` and `bb decide`.
+ghost use Rattle.std.specs.Prelude.{◌≡◌};
 ghost use Rattle.cmd_dispatch.specs.Ends.{input_of, output_of};
-ghost use Rattle.cmd_dispatch.specs.Lines.{DecidesLines, DoesCheck, DoesDecide, answers_counted};
+ghost use Rattle.cmd_dispatch.specs.Lines.{DecidesLines, DoesCheck, DoesDecide, answers_counted, reach_of, form_asked};
 
 use crate::call::Call;
 use crate::late::Late;
 use cert::{Decider, Finders};
 use cmd_explain::check_why_for;
 use cmd_json::{check_json_for, decide_json_for};
-use cmd_lines::{Reader, cmd_check, cmd_decide};
-use cmd_options::{Checking, Deciding, Ended, Outcome};
+use cmd_lines::{Reader, TableText, cmd_check, cmd_decide};
+use cmd_options::{Checking, Deciding, Ended, Outcome, Search};
 use files::Disk;
 use find_search::{AnyFinder, decider_for};
 use std::alloc::Global;
 use std::io::{Read, Write};
 use std::time::Clock;
 use system::{CountedDecider, Telling, TimedProgress, Work};
+
+// The most steps of a search.
+const MAX_STEPS: u64 = 100_000_000;
 
 // `bb check`, with `--json` or `--why` or without.
 pub(crate) fn check<S: Disk, R: Read, W: Write, E: Write>(
@@ -46,7 +50,7 @@ pub(crate) fn decide<S: Disk + Clock, R: Read, W: Write, E: Write>(
     faults: &mut E,
 ) -> Result<Outcome, Ended>
     ensures { DoesDecide (answers_counted S E ⟦<Finders<AnyFinder<'static>> as Decider>⟧.answers)
-        deciding.now.json (input_of (R.remaining input.old) (R.remaining input.new))
+        deciding.now.json deciding.now.keep (input_of (R.remaining input.old) (R.remaining input.new))
         (output_of (W.contents answers.old) (W.contents answers.new) (E.contents faults.old)
         (E.contents faults.new)) result }
 {
@@ -55,14 +59,14 @@ pub(crate) fn decide<S: Disk + Clock, R: Read, W: Write, E: Write>(
         system,
         known,
     } = call;
-    let mut decider = decider_for(alloc, known, &deciding.search)?;
+    let mut decider = decider_for(alloc, known, &reach_of(deciding))?;
     let mut late = Late::new(alloc)?;
     let telling = Telling::of(deciding.progress, system.tells_terminal());
     let progress = TimedProgress::new(alloc, telling, Work::Tables, system, &mut *faults);
     let mut told = CountedDecider::new(&mut decider, progress);
     let ended = decided(
         alloc,
-        deciding.json,
+        deciding,
         reader_of(system),
         &mut told,
         input,
@@ -74,24 +78,57 @@ pub(crate) fn decide<S: Disk + Clock, R: Read, W: Write, E: Write>(
     Ok(late.say(outcome, faults))
 }
 
-// DecidesLines, with `--json` or without.
+// How far certificates are searched for: as it is asked for, or, where tables are run alone, by runs of so many steps.
+fn reach_of<'a>(deciding: &Deciding<'a>) -> Search<'a>
+    ensures { result ≡ reach_of deciding.now }
+{
+    let Some(steps) = deciding.run else {
+        return deciding.search;
+    };
+    Search {
+        known: deciding.search.known,
+        steps: steps.min(MAX_STEPS),
+        depth: 0,
+        gram: 0,
+        far: 0,
+        words: 0,
+        count: 0,
+        rules: 0,
+        hard: false,
+    }
+}
+
+// Decides lines, with `--json` or without.
 fn decided<D: Decider, R: Read, W: Write, E: Write>(
     alloc: Global,
-    json: bool,
+    deciding: &Deciding<'_>,
     reader: Reader,
     decider: &mut D,
     input: &mut R,
     answers: &mut W,
     faults: &mut E,
 ) -> Result<Outcome, Ended>
-    ensures { DecidesLines D.answers json (input_of (R.remaining input.old) (R.remaining input.new))
+    ensures { DecidesLines D.answers deciding.now.json deciding.now.keep
+        (input_of (R.remaining input.old) (R.remaining input.new))
         (output_of (W.contents answers.old) (W.contents answers.new) (E.contents faults.old)
         (E.contents faults.new)) result }
 {
-    if json {
+    if deciding.json {
         return decide_json_for(alloc, decider, input, answers);
     }
-    Ok(cmd_decide(alloc, reader, decider, input, answers, faults))
+    let text = form_asked(deciding.keep);
+    Ok(cmd_decide(alloc, reader, text, decider, input, answers, faults))
+}
+
+// How the tables of answers are printed.
+fn form_asked(keep: bool) -> TableText
+    ensures { result ≡ form_asked keep }
+{
+    if keep {
+        TableText::AsItCame
+    } else {
+        TableText::Standard
+    }
 }
 
 // Who reads what is said on standard error.

@@ -65,7 +65,7 @@ fn name_of(asked: &Options<'_>) -> &'static str {
     match asked {
         Options::Check(_) => "check",
         Options::Decide(_) => "decide",
-        Options::Explain { .. } => "explain",
+        Options::Explain(_) => "explain",
         Options::Show(_) => "show",
         Options::Tables(_) => "tables",
         Options::Draw(_) => "draw",
@@ -96,7 +96,7 @@ fn source_of(asked: &Options<'_>) -> Source {
         Options::Join(_) => Source::LedgersOrInput,
         Options::Check(_)
         | Options::Decide(_)
-        | Options::Explain { .. }
+        | Options::Explain(_)
         | Options::Show(_)
         | Options::Tables(_)
         | Options::Draw(_)
@@ -123,11 +123,13 @@ fn lines_of(asked: &Options<'_>) -> Lines {
         Options::Show(_) => Lines::Asked,
         Options::Draw(drawing) if drawing.out.is_some() => Lines::Asked,
         Options::Draw(_) => Lines::One,
-        Options::Explain { json: false } => Lines::Explained,
+        Options::Explain(explaining) if !explaining.json && explaining.run.is_none() => {
+            Lines::Explained
+        },
         Options::Tables(_) => Lines::Any,
         Options::Check(_)
         | Options::Decide(_)
-        | Options::Explain { .. }
+        | Options::Explain(_)
         | Options::Look(_)
         | Options::Page(_)
         | Options::Report(_)

@@ -5,7 +5,8 @@ ghost use Rattle.cmd_json.specs.Forms.{IsText, form_of};
 ghost use Rattle.cmd_ledgers.specs.Settled.{SettlesTree};
 ghost use Rattle.cmd_nodes.specs.Settled.{IsRunBoard};
 ghost use Rattle.cmd_options.specs.Ranges.{IsBeginning, IsSettling};
-ghost use Rattle.cmd_dispatch.specs.Ends.{Once, ToldApart, output_of};
+ghost use Rattle.cmd_dispatch.specs.Ends.{OnceLeaving, ToldApart, output_of};
+ghost use Rattle.cmd_dispatch.specs.Kept.{LeavesUnbegun};
 ghost use Rattle.cmd_dispatch.specs.Trees.{Coordinates, Runs, RunsOver, RunsWith};
 
 use crate::call::Call;
@@ -47,9 +48,10 @@ pub(crate) fn coord<H: Files, R: Read, W: Write, E: Write>(
     faults: &mut E,
 ) -> Result<Outcome, Ended>
     requires { IsBeginning beginning }
-    ensures { Once (Coordinates (held_bytes H.Reader.remaining) (H.tells_same files.old) (H.holds files.old)
+    ensures { OnceLeaving (Coordinates (held_bytes H.Reader.remaining) (H.tells_same files.old) (H.holds files.old)
         (H.holds files.new) beginning ledger.entry
         (output_of (W.contents answers.old) (W.contents answers.new) (E.contents faults.old) (E.contents faults.new)))
+        (LeavesUnbegun (H.tells_same files.old) (H.holds files.old) (H.holds files.new) ledger.entry)
         (output_of (W.contents answers.old) (W.contents answers.new) (E.contents faults.old) (E.contents faults.new))
         result }
 {
@@ -75,9 +77,10 @@ fn coord_kept<H: Files, R: Read, W: Write, E: Write>(
     faults: &mut E,
 ) -> Result<Outcome, Ended>
     requires { IsBeginning beginning }
-    ensures { Once (Coordinates (held_bytes H.Reader.remaining) (H.tells_same files.old) (H.holds files.old)
+    ensures { OnceLeaving (Coordinates (held_bytes H.Reader.remaining) (H.tells_same files.old) (H.holds files.old)
         (H.holds files.new) beginning (Some file.entry)
         (output_of (W.contents answers.old) (W.contents answers.new) (E.contents faults.old) (E.contents faults.new)))
+        (LeavesUnbegun (H.tells_same files.old) (H.holds files.old) (H.holds files.new) (Some file.entry))
         (output_of (W.contents answers.old) (W.contents answers.new) (E.contents faults.old) (E.contents faults.new))
         result }
 {
@@ -103,17 +106,21 @@ pub(crate) fn run<S: Disk + Clock + Sockets, H: Files, W: Write, E: Write>(
     faults: &mut E,
 ) -> Result<Outcome, Ended>
     requires { IsSettling settling.now }
-    ensures { Once (Runs ⟦<Worker<Finders<AnyFinder<'static>>> as Node>⟧.answers (held_bytes H.Reader.remaining)
+    ensures { OnceLeaving (Runs ⟦<Worker<Finders<AnyFinder<'static>>> as Node>⟧.answers (held_bytes H.Reader.remaining)
         (H.tells_same files.old) (H.holds files.old) (H.holds files.new) settling.now ledger.entry
         (output_of (W.contents answers.old) (W.contents answers.new) (E.contents faults.old) (E.contents faults.new)))
+        (LeavesUnbegun (H.tells_same files.old) (H.holds files.old) (H.holds files.new) ledger.entry)
         (output_of (W.contents answers.old) (W.contents answers.new) (E.contents faults.old) (E.contents faults.new))
         result }
 {
     let workers = workers_of(call.alloc, call.known, settling)?;
+    let late = Late::new(call.alloc)?;
     let running = Running { settling, links };
     match ledger {
-        Some(file) => run_kept(call, running, workers, file, files, answers, faults),
-        None => run_alone::<_, _, H, _, _>(call, running, workers, files, answers, faults),
+        Some(file) => run_kept(call, running, workers, late, file, files, answers, faults),
+        None => Ok(run_alone::<_, _, H, _, _>(
+            call, running, workers, late, files, answers, faults,
+        )),
     }
 }
 
@@ -130,15 +137,17 @@ fn run_kept<N: Node + Drop, S: Disk + Clock + Sockets, H: Files, W: Write, E: Wr
     call: Call<'_, S>,
     running: Running<'_>,
     workers: Vec<N>,
+    late: Late,
     file: LedgerFile<'_>,
     files: &mut H,
     answers: &mut W,
     faults: &mut E,
 ) -> Result<Outcome, Ended>
     requires { IsSettling running.settling.now }
-    ensures { Once (RunsWith N.answers (held_bytes H.Reader.remaining) (H.tells_same files.old) (H.holds files.old)
-        (H.holds files.new) running.entry.settling.now workers.items (Some file.entry)
+    ensures { OnceLeaving (RunsWith N.answers (held_bytes H.Reader.remaining) (H.tells_same files.old)
+        (H.holds files.old) (H.holds files.new) running.entry.settling.now workers.items (Some file.entry)
         (output_of (W.contents answers.old) (W.contents answers.new) (E.contents faults.old) (E.contents faults.new)))
+        (LeavesUnbegun (H.tells_same files.old) (H.holds files.old) (H.holds files.new) (Some file.entry))
         (output_of (W.contents answers.old) (W.contents answers.new) (E.contents faults.old) (E.contents faults.new))
         result }
 {
@@ -147,7 +156,16 @@ fn run_kept<N: Node + Drop, S: Disk + Clock + Sockets, H: Files, W: Write, E: Wr
         mut ledger,
         lock: _lock,
     } = Kept::at(files, file)?;
-    let outcome = run_over(call, running, workers, held, &mut ledger, answers, faults)?;
+    let outcome = run_over(
+        call,
+        running,
+        workers,
+        late,
+        held,
+        &mut ledger,
+        answers,
+        faults,
+    );
     files.close(file.path, ledger);
     Ok(outcome)
 }
@@ -158,21 +176,29 @@ fn run_alone<N: Node + Drop, S: Disk + Clock + Sockets, H: Files, W: Write, E: W
     call: Call<'_, S>,
     running: Running<'_>,
     workers: Vec<N>,
+    late: Late,
     _files: &H,
     answers: &mut W,
     faults: &mut E,
-) -> Result<Outcome, Ended>
+) -> Outcome
     requires { IsSettling running.settling.now }
-    ensures { Once (RunsWith N.answers (held_bytes H.Reader.remaining) (H.tells_same _files.now) (H.holds _files.now)
+    ensures { RunsWith N.answers (held_bytes H.Reader.remaining) (H.tells_same _files.now) (H.holds _files.now)
         (H.holds _files.now) running.entry.settling.now workers.items None
-        (output_of (W.contents answers.old) (W.contents answers.new) (E.contents faults.old) (E.contents faults.new)))
         (output_of (W.contents answers.old) (W.contents answers.new) (E.contents faults.old) (E.contents faults.new))
         result }
 {
     let held = nothing::<H::Reader>();
     let mut ledger: MaybeLedger<H::Ledger> = MaybeLedger::Nothing;
-    let outcome = run_over(call, running, workers, held, &mut ledger, answers, faults)?;
-    Ok(outcome)
+    run_over(
+        call,
+        running,
+        workers,
+        late,
+        held,
+        &mut ledger,
+        answers,
+        faults,
+    )
 }
 
 // Settles the tree with some workers, over what a ledger held.
@@ -187,21 +213,20 @@ fn run_over<
     call: Call<'_, S>,
     running: Running<'_>,
     workers: Vec<N>,
+    mut late: Late,
     held: io::Result<Opened<F>>,
     ledger: &mut L,
     answers: &mut W,
     faults: &mut E,
-) -> Result<Outcome, Ended>
+) -> Outcome
     requires { IsSettling running.settling.now }
-    ensures { Once (RunsOver N.answers F.remaining running.entry.settling.now workers.items held (L.text ledger.old)
+    ensures { RunsOver N.answers F.remaining running.entry.settling.now workers.items held (L.text ledger.old)
         (L.text ledger.new)
-        (output_of (W.contents answers.old) (W.contents answers.new) (E.contents faults.old) (E.contents faults.new)))
         (output_of (W.contents answers.old) (W.contents answers.new) (E.contents faults.old) (E.contents faults.new))
         result }
 {
     let Call { alloc, system, .. } = call;
     let settling = running.settling;
-    let mut late = Late::new(alloc)?;
     let telling = Telling::of(settling.progress, system.tells_terminal());
     let mut progress = TimedProgress::new(alloc, telling, Work::Tree, system, &mut *faults);
     let outcome = run_by(
@@ -215,7 +240,7 @@ fn run_over<
         &mut late.words,
     );
     progress.end();
-    Ok(late.say(outcome, faults))
+    late.say(outcome, faults)
 }
 
 // Settles it over links of this kind.

@@ -24,7 +24,7 @@ pub(crate) fn draw<H: Files, R: Read, W: Write, E: Write>(
     answers: &mut W,
     faults: &mut E,
 ) -> Result<Outcome, Ended>
-    ensures { Always (Draws H.tells_same H.holds drawing.now files.old (input_of (R.remaining input.old)
+    ensures { Always (Draws H.tells_same H.holds drawing.now files.old files.new (input_of (R.remaining input.old)
         (R.remaining input.new))
         (output_of (W.contents answers.old) (W.contents answers.new) (E.contents faults.old)
         (E.contents faults.new))) result }

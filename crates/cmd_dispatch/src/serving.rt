@@ -5,6 +5,7 @@ ghost use Rattle.files.specs.Opened.{held_bytes};
 ghost use Rattle.cmd_nodes.specs.Listened.{traffic};
 ghost use Rattle.cmd_options.specs.Ranges.{IsBeginning};
 ghost use Rattle.cmd_dispatch.specs.Ends.{output_of};
+ghost use Rattle.cmd_dispatch.specs.Kept.{LeavesUnbegun};
 ghost use Rattle.cmd_dispatch.specs.Serves.{EndsBegun, IsConductOf, ServesAsked, ServesHeld, ServesKept, ServesOver, ServesPart};
 
 use crate::call::Call;
@@ -79,6 +80,7 @@ fn serve_begun<S: Disk + Clock, H: Files, K: Connections, W: Write, E: Write>(
         served.entry.listening served.entry.conduct connections.old connections.new
         (output_of (W.contents answers.old) (W.contents answers.new) (E.contents faults.old)
         (E.contents faults.new)))
+        (LeavesUnbegun (H.tells_same files.old) (H.holds files.old) (H.holds files.new) ledger.entry)
         (output_of (W.contents answers.old) (W.contents answers.new) (E.contents faults.old)
         (E.contents faults.new)) result }
 {
@@ -105,6 +107,7 @@ fn serve_kept<S: Disk + Clock, H: Files, K: Connections, W: Write, E: Write>(
         served.entry.listening served.entry.conduct connections.old connections.new
         (output_of (W.contents answers.old) (W.contents answers.new) (E.contents faults.old)
         (E.contents faults.new)))
+        (LeavesUnbegun (H.tells_same files.old) (H.holds files.old) (H.holds files.new) (Some file.entry))
         (output_of (W.contents answers.old) (W.contents answers.new) (E.contents faults.old)
         (E.contents faults.new)) result }
 {
@@ -142,6 +145,7 @@ fn serve_alone<S: Disk + Clock, H: Files, K: Connections, W: Write, E: Write>(
         served.entry.listening served.entry.conduct connections.old connections.new
         (output_of (W.contents answers.old) (W.contents answers.new) (E.contents faults.old)
         (E.contents faults.new)))
+        (LeavesUnbegun (H.tells_same _files.now) (H.holds _files.now) (H.holds _files.now) None)
         (output_of (W.contents answers.old) (W.contents answers.new) (E.contents faults.old)
         (E.contents faults.new)) result }
 {

@@ -1,6 +1,5 @@
 // What a page is called.
-ghost use Rattle.std.specs.Prelude.{◌≡◌, ◌⊎◌, ◌++◌, codes};
-ghost use Rattle.cmd_dispatch.specs.Pages.{IsBehindSlash, IsNameAt, IsTitle};
+ghost use Rattle.cmd_dispatch.specs.Pages.{IsBehindSlash, IsNameAt, IsTitle, IsWithoutSlash};
 
 // The title that is asked for, or else this.
 pub(crate) fn title_of<'a>(asked: Option<&'a str>, otherwise: &'a str) -> &'a str
@@ -29,7 +28,7 @@ fn behind_slash(path: &str) -> &str
 }
 
 fn without_slash(path: &str) -> &str
-    ensures { (result.now ≡ path.now) ⊎ (path.now ≡ result.now ++ codes "/") }
+    ensures { IsWithoutSlash path.now result.now }
 {
     match path.strip_suffix('/') {
         Some(plain) => plain,

@@ -2,8 +2,10 @@
 ghost use Rattle.std.specs.Prelude.{◌≡◌, ◌⊎◌, IfOk, OnErr};
 ghost use Rattle.cmd_json.specs.Forms.{IsText, form_of};
 ghost use Rattle.cmd_options.specs.Ranges.{IsWalking};
-ghost use Rattle.cmd_parts.specs.Walking.{AreAnswers, WalksTree};
+ghost use Rattle.files.specs.Paths.{IsKeptBut};
+ghost use Rattle.cmd_parts.specs.Walking.{IsWalkedBoard, WalksTree};
 ghost use Rattle.cmd_dispatch.specs.Ends.{Once, OnceSaved, ToldApart, output_of};
+ghost use Rattle.cmd_dispatch.specs.Kept.{ChangesSaved};
 ghost use Rattle.cmd_dispatch.specs.Trees.{IsRootOf, WalksBy};
 
 use crate::call::Call;
@@ -31,7 +33,8 @@ pub(crate) fn walk<S: Disk + Clock, H: Files, W: Write, E: Write>(
     faults: &mut E,
 ) -> Result<Outcome, Ended>
     requires { IsWalking walking.now }
-    ensures { OnceSaved (λ o. WalksBy ⟦<Finders<AnyFinder<'static>> as Decider>⟧.answers walking.now
+    ensures saves { ChangesSaved (H.tells_same files.old) walking.now.saving (H.holds files.old) (H.holds files.new) }
+    ensures walks { OnceSaved (λ o. WalksBy ⟦<Finders<AnyFinder<'static>> as Decider>⟧.answers walking.now
         (output_of (W.contents answers.old)
         (W.contents answers.new) (E.contents faults.old) (E.contents faults.new)) o
         ⊎ WalksBy ⟦<SavingDecider<Finders<AnyFinder<'static>>, H::Ledger> as Decider>⟧.answers walking.now
@@ -91,7 +94,8 @@ fn walk_saved<S: Disk + Clock, H: Files, W: Write, E: Write>(
     faults: &mut E,
 ) -> Result<Outcome, Ended>
     requires { IsRootOf walking.now root }
-    ensures { OnceSaved (WalksBy ⟦<SavingDecider<Finders<AnyFinder<'static>>, H::Ledger> as Decider>⟧.answers
+    ensures saves { IsKeptBut (H.tells_same files.old) saving.entry.path.now (H.holds files.old) (H.holds files.new) }
+    ensures walks { OnceSaved (WalksBy ⟦<SavingDecider<Finders<AnyFinder<'static>>, H::Ledger> as Decider>⟧.answers
         walking.now (output_of (W.contents answers.old)
         (W.contents answers.new) (E.contents faults.old) (E.contents faults.new)))
         (output_of (W.contents answers.old)
@@ -121,7 +125,10 @@ fn walk_saved<S: Disk + Clock, H: Files, W: Write, E: Write>(
 }
 
 // The file to which records are saved, locked. A walk is long: that the file can't be written is said before it begins.
-fn opened<H: Files>(files: &mut H, path: &str) -> Result<(H::Lock, H::Ledger), Ended> {
+#[tactic(auto, using(crate::proofs::Keeping::kept_then))]
+fn opened<H: Files>(files: &mut H, path: &str) -> Result<(H::Lock, H::Ledger), Ended>
+    ensures { IsKeptBut (H.tells_same files.old) path.now (H.holds files.old) (H.holds files.new) }
+{
     if let Err(fault) = files.create(path) {
         return Err(ended_by(&fault, Ended::Ledger));
     }
@@ -145,7 +152,7 @@ fn walk_by<D: Decider, S: Disk + Clock, W: Write, E: Write>(
     faults: &mut E,
 ) -> Result<(Outcome, Late), Ended>
     ensures walks { IfOk result (λ r. ToldApart (WalksTree (IsText (form_of walking.now.json)) root
-        (AreAnswers D D.answers)
+        (IsWalkedBoard D D.answers)
         (W.contents answers.old) (W.contents answers.new)) r.0) }
     ensures err { OnErr result (W.contents answers.new ≡ W.contents answers.old) }
 {

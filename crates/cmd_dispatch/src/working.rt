@@ -1,6 +1,7 @@
 // `bb work`.
 ghost use Rattle.cmd_options.specs.Ranges.{IsWorking};
-ghost use Rattle.cmd_dispatch.specs.Does.{Works};
+ghost use Rattle.cmd_dispatch.specs.Ends.{input_of, output_of};
+ghost use Rattle.cmd_dispatch.specs.Works.{Works, WorksAt, WorksFor};
 
 use crate::call::Call;
 use crate::kept::{Kept, nothing};
@@ -14,6 +15,7 @@ use peers::Pool;
 use std::alloc::Global;
 use std::io::{self, Read, Write};
 use std::time::Clock;
+use wire::{LedgerOut, Node};
 
 // The workers of a process, each with its ledger, and the locks of these.
 #[derive(Drop)]
@@ -32,26 +34,60 @@ pub(crate) fn work<S: Disk + Clock + Network, H: Files, R: Read, W: Write, E: Wr
     faults: &mut E,
 ) -> Result<Outcome, Ended>
     requires { IsWorking working.now }
-    ensures { Works result }
+    ensures { Works S.Caller.calls working.now (input_of (R.remaining input.old) (R.remaining input.new))
+        (output_of (W.contents answers.old) (W.contents answers.new) (E.contents faults.old)
+        (E.contents faults.new)) result }
 {
     let token = token_of(call.system, working.token)?;
     let Workers {
         mut pool,
         locks: _locks,
     } = workers_of(call, working, files)?;
+    work_for(call, working, &token, &mut pool, input, answers, faults)
+}
+
+// For the coordinator at an address, or for the one whose frames come on `input`.
+fn work_for<N: Node, L: LedgerOut, S: Disk + Clock + Network, R: Read, W: Write, E: Write>(
+    call: Call<'_, S>,
+    working: &Working<'_>,
+    token: &Option<Vec<u8>>,
+    pool: &mut Pool<N, L>,
+    input: &mut R,
+    answers: &mut W,
+    faults: &mut E,
+) -> Result<Outcome, Ended>
+    ensures { WorksFor S.Caller.calls working.now working.now.connect (input_of (R.remaining input.old)
+        (R.remaining input.new)) (output_of (W.contents answers.old) (W.contents answers.new) (E.contents faults.old)
+        (E.contents faults.new)) result }
+{
     let Call { alloc, system, .. } = call;
     match working.connect {
         Some(address) => {
-            if system.tells_terminal() {
-                // Nothing hangs on whether it can be said.
-                let _ = writeln!(faults, "connecting with {address}");
-            }
-            let to = coordinator_at(address, &token);
-            let mut caller = system.caller();
-            work_at(alloc, &mut pool, system, &mut caller, to, working.tries)
+            let to = coordinator_at(address, token);
+            work_called(alloc, pool, system, to, working.tries, faults)
         }
-        None => work_between(alloc, &mut pool, input, answers, system),
+        None => work_between(alloc, pool, input, answers, system),
     }
+}
+
+// For one that is called.
+#[tactic(auto, using(crate::proofs::Calling::worked_at))]
+fn work_called<N: Node, L: LedgerOut, S: Disk + Clock + Network, E: Write>(
+    alloc: Global,
+    pool: &mut Pool<N, L>,
+    system: &S,
+    to: Destination<'_>,
+    tries: u64,
+    faults: &mut E,
+) -> Result<Outcome, Ended>
+    ensures { WorksAt S.Caller.calls tries result }
+{
+    if system.tells_terminal() {
+        // Nothing hangs on whether it can be said.
+        let _ = writeln!(faults, "connecting with {}", to.address);
+    }
+    let mut caller = system.caller();
+    work_at(alloc, pool, system, &mut caller, to, tries)
 }
 
 // A coordinator at an address, to which this token is shown. A function of its own, since both are lent for as long here.

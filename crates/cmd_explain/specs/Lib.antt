@@ -19,3 +19,9 @@ pub mod ReductionLists
 pub mod CountedLists
 pub mod NgramLists
 pub mod Listed
+pub mod Graph
+pub mod Graphs
+pub mod Drawn
+pub mod Seen
+pub mod SeenLines
+pub mod inside

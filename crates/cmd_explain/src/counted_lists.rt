@@ -44,8 +44,8 @@ fn append_field_lists(
     Ok(())
 }
 
-// The first of the texts that are left.
-fn next_text<'a>(texts: &mut Parts<'a>) -> &'a [u8]
+/// The first of the texts that are left.
+pub(crate) fn next_text<'a>(texts: &mut Parts<'a>) -> &'a [u8]
     requires { 0 < length texts.old }
     ensures is { texts.old ≡ result.now ∷ texts.new }
     ensures others { length texts.new + 1 ≡ length texts.old }

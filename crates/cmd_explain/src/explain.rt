@@ -72,7 +72,7 @@ impl Sayer for Explainer {
     }
 }
 
-/// Appends what is said to a line, which is none where it was too long, with a newline.
+/// Appends the answer to a line, which is none where it was too long, with a newline.
 pub fn explain_line(
     alloc: Global,
     line: Option<&[u8]>,
@@ -108,7 +108,7 @@ fn explain_record(alloc: Global, r: &Record, out: &mut Vec<u8>) -> Result<Outcom
     Ok(Outcome::Accepted)
 }
 
-/// Appends what is said to a line and behind it the lists of its certificate, with a newline.
+/// Appends the answer to a line and behind it the lists of its certificate, with a newline.
 pub fn explain_line_in_full(
     alloc: Global,
     line: Option<&[u8]>,
@@ -122,7 +122,7 @@ pub fn explain_line_in_full(
     Ok(outcome)
 }
 
-// Appends what is said to what was read, and behind it the lists.
+// Appends the answer to what was read, and behind it the lists.
 fn list_read(
     alloc: Global,
     read: &Result<Record<'_>, RecordFault>,

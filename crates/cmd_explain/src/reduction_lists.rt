@@ -82,8 +82,8 @@ fn far_transition(alloc: Global, e: &Far, state: usize) -> Result<Vec<u8>, NoMem
     Ok(cell)
 }
 
-// The digit of a number of delta.
-fn delta_at(e: &Far, place: usize) -> u8
+/// The digit of a number of delta.
+pub(crate) fn delta_at(e: &Far, place: usize) -> u8
     requires { place < 2 * (automata_of e.now).size }
     ensures { hex_value result ≡ slice_index (automata_of e.now).delta place }
 {
@@ -92,8 +92,8 @@ fn delta_at(e: &Far, place: usize) -> u8
     e.delta()[place]
 }
 
-// The number whose digit a byte is, in decimal.
-fn digit_text(alloc: Global, byte: u8) -> Result<Vec<u8>, NoMemory>
+/// The number whose digit a byte is, in decimal.
+pub(crate) fn digit_text(alloc: Global, byte: u8) -> Result<Vec<u8>, NoMemory>
     ensures { IfOk result (λ text. text.items ≡ decimal (hex_value byte)) }
 {
     let mut text = Vec::new(alloc);

@@ -77,7 +77,7 @@ impl<'a, E: Write> Sayer for WhyChecker<'a, E> {
     }
 }
 
-/// Why a line is refused, in words; of a table that halts otherwise than it is said to, when it does, and with how many
+/// Why a line is refused, in words; of a table that halts otherwise than its record says, when it does, and with how many
 /// ones. Nothing where its record stands.
 pub fn why_of(alloc: Global, line: Option<&[u8]>) -> Result<Option<String>, NoMemory>
     ensures { IfOk result (λ words. TellsWhy (read_line (lent line.entry)) (option_map string_bytes words)) }

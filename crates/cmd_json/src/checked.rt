@@ -63,8 +63,7 @@ impl Sayer for Checker {
     }
 }
 
-/// Appends the object that is said to the line with such a number, which is none where it was too long, with a
-/// newline.
+/// Appends the object that answers the line of this number, which is none where it was too long, with a newline.
 pub fn check_json_line(
     alloc: Global,
     with_why: bool,

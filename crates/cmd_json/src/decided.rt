@@ -67,8 +67,7 @@ impl<'a, D: Decider> Sayer for Answerer<'a, D> {
     }
 }
 
-/// Appends the object that is said to the line with such a number, which is none where it was too long, with a
-/// newline.
+/// Appends the object that answers the line of this number, which is none where it was too long, with a newline.
 pub fn decide_json_line<D: Decider>(
     alloc: Global,
     decider: &mut D,

@@ -1,4 +1,6 @@
 pub mod Answering
+pub mod Keeping
+pub mod Kept
 pub mod Taking
 pub mod Pieces
 pub mod Early

@@ -25,7 +25,7 @@ mod words;
 
 pub use answers::{answer, answer_record, append_fault, outcome_shown, read_line};
 pub use check::cmd_check;
-pub use decide::{cmd_decide, decide_line};
+pub use decide::{TableText, cmd_decide, decide_line};
 pub use line_loop::LineLoop;
 pub use list::cmd_tables;
 pub use misplaced::Reader;

@@ -23,8 +23,8 @@ use std::alloc::Global;
 use std::io::{Read, Write};
 
 /// Reads a text of any form, and prints the tables in it in the standard form, a line each, where they come first: renamed
-/// and mirrored as their runs ask for, if that is wanted; and a line that is a record, but for white space at its ends, as
-/// it stands, if records are kept. How many lines had none, and how many tables had come before, is
+/// and mirrored as their runs ask for, if that is wanted; and a line that is a record, apart from white space at its ends,
+/// as it stands, if records are kept. How many lines had none, and how many tables had come before, is
 /// said on `faults` at the end, and what a failed stream or refused memory ends: then what was printed is what is found in
 /// the first lines, in full where memory was refused.
 pub fn cmd_tables<R: Read, W: Write, E: Write>(

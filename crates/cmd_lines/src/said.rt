@@ -15,7 +15,7 @@ use std::io::{Read, Write};
 /// The most bytes that are read at once.
 pub const PIECE_BYTES: usize = 16_384;
 
-/// Reads lines, so many bytes at once at most, and writes what is said to each as soon as its piece of the stream was taken.
+/// Reads lines, so many bytes at once at most, and writes the answer to each as soon as its piece of the stream was taken.
 /// A last line without newline is read too. Where that ends early, what was said to the lines before is written, to each in
 /// full; where a stream failed, a first part of that. Errors: what ends the taking, a stream that fails, and refused memory.
 pub fn say_lines<S: Sayer + Drop, R: Read, W: Write>(

@@ -15,7 +15,7 @@ pub trait Sayer {
     /// What may end the taking.
     ghost ends: { End → Type 0 };
 
-    /// Takes a line, and appends what is said to it, whole lines or nothing. What it appended before an error isn't used.
+    /// Takes a line, and appends the answer to it, whole lines or nothing. What it appended before an error isn't used.
     fn take_line(&mut self, line: Option<&[u8]>, said: &mut Vec<u8>) -> Result<Outcome, Ended>
         ensures ok { IfOk result (λ o. (more : List ℕ) × takes self.old (lent line.entry) o self.new more
             × (said.new.items ≡ said.old.items ++ more)) }

@@ -43,7 +43,7 @@ impl Losses {
     }
 }
 
-/// Delivers to one end what was sent from the other, but for the frames that are lost.
+/// Delivers to one end what was sent from the other, except for the frames that are lost.
 pub fn deliver(from: &mut MemLink, to: &mut MemLink, losses: &mut Losses) -> Result<(), NoMemory>
     ensures every { losses.new.every ≡ losses.old.every }
     ensures frames { OnOk result ((delivered : List ℕ)

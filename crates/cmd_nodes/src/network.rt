@@ -34,7 +34,7 @@ pub trait Network {
     /// Says on a terminal what was remembered last of a connection, and after how long it is tried again.
     fn tell_again(&self, wait: Duration);
 
-    /// Whether the workers have come again in vain for so long that they pause for a second: where that is new, it is said on a
-    /// terminal.
+    /// Whether the workers have come again in vain for so long that they pause for a second: where that is new, a
+    /// terminal shows it.
     fn tell_idle(&self, _idle: bool) {}
 }

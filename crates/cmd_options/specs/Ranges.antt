@@ -1,5 +1,5 @@
 -- The ranges of the options' numbers.
-use Rattle.std.specs.Prelude.{◌≡◌, ◌≤◌, None, IfSome}
+use Rattle.std.specs.Prelude.{◌≡◌, ◌≤◌, ℕ, Option, None, IfSome}
 use Rattle.cmd_options.specs.declared.options.Options.{Options}
 use Rattle.cmd_options.specs.declared.options.Options.TheVariants.{Check, Decide, Explain, Show, Tables, Coord, CoordPart, Work, Run, Loop, Retry, Merge, Carry, Mend, Split, Settle, Walk, Join, Look, Draw, Page, Report}
 use Rattle.cmd_options.specs.declared.options.Search.{Search}
@@ -73,10 +73,14 @@ pub record IsDrawing (d : Drawing) : Type 0 where
   pub pixels : d.square ≤ 1000
   pub some_height : IfSome d.height (λ pixels. 1 ≤ pixels)
 
+-- of the steps of a run alone, where there is one
+abbrev pub IsRunIf : Option ℕ → Type 0
+IsRunIf run = IfSome run (λ steps. (1 ≤ steps) × (steps ≤ 10000000000))
+
 abbrev pub AreWithinRanges : Options → Type 0
 AreWithinRanges (Check checking) = Unit {0}
-AreWithinRanges (Decide deciding) = IsWithinRange deciding.search
-AreWithinRanges (Explain json) = Unit {0}
+AreWithinRanges (Decide deciding) = IsWithinRange deciding.search × IsRunIf deciding.run
+AreWithinRanges (Explain explaining) = IsRunIf explaining.run
 AreWithinRanges (Show showing) = 1 ≤ showing.every
 AreWithinRanges (Tables listing) = listing.steps ≤ 100000000
 AreWithinRanges (Coord beginning ledger listening) = IsBeginning beginning × IfSome listening IsListening

@@ -23,9 +23,9 @@ pub use kinds::{COUNT, DEPTH, FAR, GRAM, LETTERS, REACH_NAMES, REACHES, RULES, W
 pub use ledger_file::{Durability, LedgerFile};
 pub use number::Number;
 pub use options::{
-    Beginning, Carrying, Checking, Deciding, Joining, LedgerSettling, Listening, Listing, Looking,
-    Mending, Merging, Options, Paging, PartCoordinating, Reporting, Retrying, Saving, Search,
-    Settling, Showing, Splitting, Walking, Working,
+    Beginning, Carrying, Checking, Deciding, Explaining, Joining, LedgerSettling, Listening,
+    Listing, Looking, Mending, Merging, Options, Paging, PartCoordinating, Reporting, Retrying,
+    Saving, Search, Settling, Showing, Splitting, Walking, Working,
 };
 pub use outcome::Outcome;
 pub use std::alloc::AllocError as NoMemory;

@@ -7,15 +7,12 @@ use crate::ledger_file::LedgerFile;
 pub enum Options<'a> {
     /// `bb check [--json] [--why]`
     Check(Checking),
-    /// `bb decide [--json] [--progress] [--known FILE] [--steps K] [--depth D] [--gram G] [--far M] [--words W]
-    /// [--count C] [--rules R] [--hard]`
+    /// `bb decide [--json] [--keep] [--run K] [--progress] [--known FILE] [--steps K] [--depth D] [--gram G] [--far M]
+    /// [--words W] [--count C] [--rules R] [--hard]`
     Decide(Deciding<'a>),
-    /// `bb explain [--json]`
-    Explain {
-        /// Whether each answer is an object of JSON.
-        json: bool,
-    },
-    /// `bb show [--from T] [--steps K] [--every E] [--fold]`
+    /// `bb explain [--json] [--dot] [--run K]`
+    Explain(Explaining),
+    /// `bb show [--from T] [--steps K] [--every E] [--fold] [--align]`
     Show(Showing),
     /// `bb tables [--normal] [--steps K] [--records]`
     Tables(Listing),
@@ -91,8 +88,25 @@ pub struct Deciding<'a> {
     pub search: Search<'a>,
     /// Whether each answer is an object of JSON.
     pub json: bool,
+    /// Whether the table of an answer is printed as it came.
+    pub keep: bool,
+    /// The most steps of its run, where a table is run alone: 1 to 10,000,000,000. None where all that `search` asks for is
+    /// done.
+    pub run: Option<u64>,
     /// Whether to tell on standard error, while it goes on, how far it is.
     pub progress: bool,
+}
+
+/// What is said in words of records that are judged.
+#[derive(Clone, Copy, Debug, PartialEq, Eq)]
+pub struct Explaining {
+    /// Whether each answer is an object of JSON.
+    pub json: bool,
+    /// Whether the automata of a record are drawn, in the language of Graphviz, in place of words.
+    pub dot: bool,
+    /// Tables without a certificate are run for so many steps at most, and it is said what was seen: 1 to 10,000,000,000. None
+    /// where they aren't run.
+    pub run: Option<u64>,
 }
 
 /// How the holdouts of a ledger are tried again.
@@ -140,6 +154,8 @@ pub struct Showing {
     pub every: u64,
     /// Whether runs of equal words are folded, as in `1^12 (01)^5`.
     pub fold: bool,
+    /// Whether each row begins at the same cell, with blanks as `.`.
+    pub align: bool,
 }
 
 /// How tables are taken from a text of any form.

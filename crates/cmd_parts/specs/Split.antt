@@ -1,5 +1,5 @@
 -- A tree that is split: a trunk, whose tables of few entries are settled, and a ledger for each table that it leaves open.
-use Rattle.std.specs.Prelude.{◌≡◌, ◌⊎◌, ℕ, ◌-◌, ◌≤◌, nat_lt, ◌==◌, if◌then◌else◌, List, [], ◌∷◌, ◌++◌, length, Option, Some, None, IfSome, Ok, codes, decimal}
+use Rattle.std.specs.Prelude.{◌≡◌, ◌⊎◌, ℕ, ◌-◌, ◌<◌, ◌≤◌, nat_lt, ◌==◌, if◌then◌else◌, List, [], ◌∷◌, ◌++◌, length, Option, Some, None, IfSome, Ok, codes, decimal}
 use Rattle.machine_text.specs.Packed.{Packed, empty_table}
 use Rattle.machine_text.specs.Text.{text_of}
 use Rattle.cert.specs.Claim.{Recorded}
@@ -10,7 +10,7 @@ use Rattle.ledger.specs.declared.format.Format.TheVariants.{Two}
 use Rattle.ledger.specs.declared.left.Left.{Left}
 use Rattle.ledger.specs.declared.left.Left.TheVariants.{Nothing, From}
 use Rattle.ledger.specs.declared.tally.Tally.{Tally}
-use Rattle.wire.specs.Device.{IsBegun, grown}
+use Rattle.wire.specs.Device.{IsBegun, grown, shortened}
 use Rattle.cmd_ledgers.specs.Reading.{AreFirstBytes}
 use Rattle.cmd_ledgers.specs.GoingOn.{kept_part}
 use Rattle.cmd_parts.specs.Settling.{IsOpenBelow, LeavesSettled, SettlesMany, filled_count}
@@ -28,6 +28,11 @@ begun_header root = header_words Two ++ text_of root ++ (10 ∷ [])
 abbrev pub begun_part : Packed → ℕ → Option (List ℕ) → Option (List ℕ)
 begun_part root bytes None = None
 begun_part root bytes (Some text) = Some (if nat_lt bytes (length (begun_header root)) then begun_header root else text)
+
+-- what an early end leaves of it: it is as it was; or it was shorter than its header, of which it has a beginning
+abbrev pub LeavesBegun : Packed → ℕ → Option (List ℕ) → Option (List ℕ) → Type 0
+LeavesBegun root bytes before after = (after ≡ before)
+    ⊎ ((bytes < length (begun_header root)) × IsBegun (shortened 0 before) (begun_header root) after)
 
 -- how much is kept of a ledger of so many bytes
 abbrev pub kept_size : ℕ → Left → ℕ

@@ -6,7 +6,7 @@ use Rattle.law_tree.specs.Best.{Scores}
 use Rattle.law_tree.specs.Closed.{IsComplete}
 use Rattle.law_tree.specs.Tables.{IsBestOfTable}
 use Rattle.cert.specs.Claim.{Recorded}
-use Rattle.ledger.specs.Contents.{Contents}
+use Rattle.ledger.specs.Contents.{Contents, IsOpenOn}
 use Rattle.ledger.specs.Records.{mark_in}
 use Rattle.ledger.specs.Tally.{IsGreatestCount, IsGreatestOnes}
 use Rattle.totals.specs.Walk.{IsAnswered}
@@ -17,6 +17,10 @@ use Rattle.cmd_options.specs.declared.ended.Ended.{Ended}
 -- the records of a board are what a decider answered for their tables
 abbrev pub AreAnswers : (D : Type 0) → (D → Packed → Recorded → Type 0) → Contents → Type 0
 AreAnswers D answers board = All (IsAnswered D answers) board.records
+
+-- and none of its tree is left open: it has a record of each table that is there to be walked
+abbrev pub IsWalkedBoard : (D : Type 0) → (D → Packed → Recorded → Type 0) → Contents → Type 0
+IsWalkedBoard D answers board = AreAnswers D answers board × ((t : Packed) → IsOpenOn board t → ⊥)
 
 -- the board is complete: its best is the greatest number of steps of all extensions of the root that halt, in tree normal
 -- form or not, and its ones are their greatest score

@@ -1,12 +1,13 @@
 // A folder of ledgers, one for each part of a tree.
-ghost use Rattle.std.specs.Prelude.{◌≡◌, ℕ, List, codes, IfOk, None, OnOk, Some, string_bytes};
+ghost use Rattle.std.specs.Prelude.{◌≡◌, ◌⊎◌, ℕ, List, codes, IfOk, None, OnErr, OnOk, Some, string_bytes};
 ghost use Rattle.machine_text.specs.Packed.{Packed};
 ghost use Rattle.machine_text.specs.Text.{text_of};
 ghost use Rattle.ledger.specs.Contents.{IsOpenOn};
 ghost use Rattle.ledger.specs.Tally.{AreAll};
 ghost use Rattle.files.specs.Paths.{IsToldStill};
-ghost use Rattle.cmd_parts.specs.AtPaths.{AreBegunAt, IsBegunAt, IsPartBegun, IsSizeAt};
-ghost use Rattle.cmd_parts.specs.Split.{begun_part, path_within};
+ghost use Rattle.cmd_parts.specs.AtPaths.{AreBegunAt, IsBegunAt, IsPartBegun, IsSizeAt, LeavesPartAt, LeavesPartsAt};
+ghost use Rattle.cmd_parts.specs.Split.{LeavesBegun, begun_part, path_within};
+ghost use Rattle.wire.specs.Device.{IsBegun, shortened};
 
 use cmd_options::{Durability, Ended, LedgerFile, ended_by};
 use files::{Files, held_at, ledger_at};
@@ -61,8 +62,10 @@ pub fn begin_parts<H: Files>(
     folder: &str,
     host: &mut H,
 ) -> Result<(), Ended>
-    ensures { OnOk result ((roots : List Packed) × AreAll (IsOpenOn board.now) roots
+    ensures ok { OnOk result ((roots : List Packed) × AreAll (IsOpenOn board.now) roots
         × AreBegunAt (H.tells_same host.old) folder.now roots (H.holds host.old) (H.holds host.new)) }
+    ensures leaves { OnErr result ((roots : List Packed) × AreAll (IsOpenOn board.now) roots
+        × LeavesPartsAt (H.tells_same host.old) folder.now roots (H.holds host.old) (H.holds host.new)) }
 {
     for root in board.open() {
         begin_part_in(alloc, folder, root, host)?;
@@ -79,6 +82,8 @@ fn begin_part_in<H: Files>(
 ) -> Result<(), Ended>
     ensures ok { OnOk result (IsBegunAt (H.tells_same host.old) folder.now root.now (H.holds host.old)
         (H.holds host.new)) }
+    ensures leaves { OnErr result (LeavesPartAt (H.tells_same host.old) (path_within folder.now (text_of root.now))
+        root.now (H.holds host.old) (H.holds host.new)) }
     ensures tells { IsToldStill (H.tells_same host.old) (H.tells_same host.new) }
 {
     let path = part_path(alloc, folder, root)?;
@@ -93,6 +98,8 @@ fn begin_part_at<H: Files>(
     host: &mut H,
 ) -> Result<(), Ended>
     ensures ok { OnOk result (IsPartBegun (H.tells_same host.old) path.now root.now (H.holds host.old)
+        (H.holds host.new)) }
+    ensures leaves { OnErr result (LeavesPartAt (H.tells_same host.old) path.now root.now (H.holds host.old)
         (H.holds host.new)) }
     ensures tells { IsToldStill (H.tells_same host.old) (H.tells_same host.new) }
 {
@@ -115,7 +122,8 @@ pub fn begin_part<L: LedgerOut>(
     bytes: u64,
     ledger: &mut L,
 ) -> Result<(), Ended>
-    ensures { OnOk result (L.text ledger.new ≡ begun_part root.now bytes (L.text ledger.old)) }
+    ensures ok { OnOk result (L.text ledger.new ≡ begun_part root.now bytes (L.text ledger.old)) }
+    ensures leaves { OnErr result (LeavesBegun root.now bytes (L.text ledger.old) (L.text ledger.new)) }
 {
     let mut header = Vec::new(alloc);
     append_header(root, &mut header)?;
@@ -130,6 +138,8 @@ pub fn begin_part<L: LedgerOut>(
 fn write_over<L: LedgerOut>(ledger: &mut L, bytes: &[u8]) -> Result<(), Ended>
     ensures known { OnOk result ((text : List ℕ) → L.text ledger.old ≡ Some text → L.text ledger.new ≡ Some bytes.now) }
     ensures unknown { OnOk result (L.text ledger.old ≡ None → L.text ledger.new ≡ None) }
+    ensures err { OnErr result ((L.text ledger.new ≡ L.text ledger.old)
+        ⊎ IsBegun (shortened 0 (L.text ledger.old)) bytes.now (L.text ledger.new)) }
 {
     match ledger.cut(0) {
         Ok(()) => match append_all(ledger, bytes) {

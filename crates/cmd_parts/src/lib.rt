@@ -1,6 +1,6 @@
-//! The commands of `bb` that cut a tree into ledgers, work those off, and tell of all of them together: `split`, `settle`
-//! and `join`, of a folder or of a stream; `look`, what a ledger or a folder has recorded of given tables; and `walk`, by which a
-//! tree is walked to its end in one process and told of, without a record kept or a ledger written.
+//! The commands of `bb` that cut a tree into ledgers, settle these, and report on all of them together: `split`, `settle` and
+//! `join`, of a folder or of a stream; `look`, what a ledger or a folder has recorded of given tables; and `walk`, which
+//! walks a tree to its end in one process and reports on it, without keeping a record or a ledger.
 //!
 //! `specs/Settling` says what becomes of a board and its ledger while open tables are settled, `specs/Settle` what a
 //! ledger is that is settled whole, `specs/Split` what a tree is that is split into a trunk and its parts, `specs/Join` what

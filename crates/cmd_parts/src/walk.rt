@@ -1,12 +1,12 @@
 // `bb walk`: a tree is walked, and its report written.
-ghost use Rattle.std.specs.Prelude.{◌≡◌, ◌≤◌, ℕ, List, Option, Result, IfOk, IfErr};
+ghost use Rattle.std.specs.Prelude.{◌≡◌, ◌≤◌, ℕ, List, [], Option, Result, IfOk, IfErr};
 ghost use Rattle.machine_text.specs.Limits.{state_limit};
 ghost use Rattle.machine_text.specs.Packed.{empty_table};
 ghost use Rattle.cmd_options.specs.Ends.{EndsTold};
 ghost use Rattle.cmd_options.specs.declared.ended.Ended.{Ended as Ends};
 ghost use Rattle.cmd_options.specs.declared.outcome.Outcome.{Outcome as Outcomes};
 ghost use Rattle.cmd_ledgers.specs.Settled.{TellsTree};
-ghost use Rattle.cmd_parts.specs.Walking.{AreAnswers, TellsWalk, WalksTree};
+ghost use Rattle.cmd_parts.specs.Walking.{IsWalkedBoard, TellsWalk, WalksTree};
 ghost use Rattle.cmd_parts.specs.inside.Walking.{IsOfAnswers, IsToldOfWalk};
 
 use cert::Decider;
@@ -24,9 +24,9 @@ use totals::Walk;
 const TABLES_BETWEEN: u64 = 1_024;
 
 /// Walks the tree of a root to its end, asks the decider for each table, once, and prints the report in a form: that of a
-/// board which would hold all its records. Accepted where that board is complete. What ends the command early is said on
-/// `faults`: a root that doesn't name its states in order, refused memory, which a number that would need more than 64 bits
-/// is too, and a stream that failed.
+/// board which would hold all its records, on which no table is open. Accepted where that board is complete. What ends the
+/// command early is said on `faults`: a root that doesn't name its states in order, refused memory, which a number that
+/// would need more than 64 bits is too, and a stream that failed.
 #[tactic(auto, using(cmd_ledgers::proofs::Settling::tells))]
 pub fn cmd_walk<P: ReportForm, D: Decider, T: Progress, W: Write, E: Write>(
     alloc: Global,
@@ -39,14 +39,14 @@ pub fn cmd_walk<P: ReportForm, D: Decider, T: Progress, W: Write, E: Write>(
 ) -> Outcome
     // Of the tree of n states, as `bb run` does.
     ensures tells { (n : ℕ) → 1 ≤ n → n ≤ state_limit → root ≡ empty_table n →
-        TellsTree (P.is_text form.now) n (AreAnswers D D.answers) (W.contents answers.old) (W.contents answers.new)
+        TellsTree (P.is_text form.now) n (IsWalkedBoard D D.answers) (W.contents answers.old) (W.contents answers.new)
         result }
     // Of the tree below any table.
-    ensures below { TellsWalk (P.is_text form.now) root (AreAnswers D D.answers) (W.contents answers.old)
+    ensures below { TellsWalk (P.is_text form.now) root (IsWalkedBoard D D.answers) (W.contents answers.old)
         (W.contents answers.new) result }
     ensures ends { (ended : Result Outcomes Ends) × (said : Option (List ℕ))
-        × WalksTree (P.is_text form.now) root (AreAnswers D D.answers) (W.contents answers.old) (W.contents answers.new)
-        ended
+        × WalksTree (P.is_text form.now) root (IsWalkedBoard D D.answers) (W.contents answers.old)
+        (W.contents answers.new) ended
         × EndsTold ended said (E.contents faults.new) result }
 {
     told(
@@ -64,7 +64,7 @@ fn walk_tree<P: ReportForm, D: Decider, T: Progress, W: Write>(
     progress: &mut T,
     answers: &mut W,
 ) -> Result<Outcome, Ended>
-    ensures { WalksTree (P.is_text form.now) root (AreAnswers D D.answers) (W.contents answers.old)
+    ensures { WalksTree (P.is_text form.now) root (IsWalkedBoard D D.answers) (W.contents answers.old)
         (W.contents answers.new) result }
 {
     let walk = walked(alloc, root, decider, progress)?;
@@ -74,14 +74,15 @@ fn walk_tree<P: ReportForm, D: Decider, T: Progress, W: Write>(
     Ok(outcome_by(status, &Left::Nothing))
 }
 
-// The walk of the tree of a root, at its end.
+// The walk of the tree of a root, at its end: no table is ahead. More tables than 64 bits count are refused memory.
 fn walked<D: Decider, T: Progress>(
     alloc: Global,
     root: Table,
     decider: &mut D,
     progress: &mut T,
 ) -> Result<Walk, Ended>
-    ensures { IfOk result (IsOfAnswers D D.answers root) }
+    ensures answers { IfOk result (IsOfAnswers D D.answers root) }
+    ensures done { IfOk result (λ walk. walk.ahead ≡ []) }
 {
     let mut walk = match Walk::new(alloc, root) {
         Ok(walk) => walk,
@@ -90,12 +91,12 @@ fn walked<D: Decider, T: Progress>(
     };
     for _ in 0..u64::MAX {
         if walk.is_done() {
-            break;
+            return Ok(walk);
         }
         walk.walk(decider, TABLES_BETWEEN)?;
         progress.tell_walk(walk.root(), walk.ahead(), &walk.tally());
     }
-    Ok(walk)
+    Err(Ended::NoMemory)
 }
 
 // What a report tells of a walk.

@@ -8,6 +8,7 @@ pub mod Symbols
 pub mod Folding
 pub mod Painting
 pub mod LineLaws
+pub mod Framing
 pub mod Keeping
 mod Endings
 mod Paths

@@ -25,7 +25,7 @@ use Rattle.cmd_show.proofs.Symbols.{drawn, drawn_none, not_one, shown_cells, sho
 use Rattle.cmd_show.specs.Tape.{cells_from, AreSides}
 use Rattle.cmd_show.specs.inside.Lines.{whole, first_column, painted}
 
-length_cells : (c : Config) (n : ℕ) (x : ℤ) → length (cells_from c x n) ≡ n
+pub length_cells : (c : Config) (n : ℕ) (x : ℤ) → length (cells_from c x n) ≡ n
 unfolding cells_from
 length_cells c zero x = refl
 length_cells c (suc n) x = let later = length_cells c n (x +ℤ pos 1) in omega arith
@@ -102,6 +102,11 @@ drawn_beyond from (r ∷ runs) end i apart late =
     let order = apart_order (r.first + r.count + 1) runs end apart.2 in
     let past : r.first + r.count ≤ i = omega arith in
     drawn_behind r runs i past ∙ drawn_beyond (r.first + r.count + 1) runs end i apart.2 late
+
+pub apart_higher : (from : ℕ) (runs : List Stretch) (limit higher : ℕ) → limit ≤ higher → AreApart from runs limit → AreApart from runs higher
+unfolding AreApart
+apart_higher from [] limit higher high apart = omega (arith, apart)
+apart_higher from (r ∷ runs) limit higher high apart = (apart.0, apart.1, apart_higher (r.first + r.count + 1) runs limit higher high apart.2)
 
 pub apart_lower : (from lower : ℕ) (runs : List Stretch) (limit : ℕ) → lower ≤ from → AreApart from runs limit → AreApart lower runs limit
 unfolding AreApart
@@ -204,6 +209,23 @@ painted_cells c v column from (r ∷ runs) least limit low apart all =
     ∙ (ap (λ (t : List ℕ). replicate a 48 ++ (replicate r.count 49 ++ t)) (sym later)
     ∙ sym (append_assoc (replicate a 48) (replicate r.count 49) (painted next runs least))))))
 
+-- all columns of a view, where the runs end in it, cut before one of them
+pub sides_wide : (c : Config) (v : View) (runs : List Stretch) (width head : ℕ) → AreApart 0 runs (width + 1) → ((i : ℕ) → i < width → drawn runs i ≡ cell c (place v i)) → head < width
+    → (take head (painted 0 runs width) ≡ cells_from c (place v 0) head) × (drop head (painted 0 runs width) ≡ cells_from c (place v 0 +ℤ pos head) (width - head))
+sides_wide c v runs width head apart all within =
+    let end = end_of 0 runs width in
+    let low : width ≤ end = end_least 0 runs width in
+    let high : end < width + 1 = end_high 0 0 runs width (width + 1) (omega arith) (omega arith) apart in
+    let whole_width : end - 0 ≡ head + (width - head) = omega arith in
+    let l = cells_from c (place v 0) head in
+    let r = cells_from c (place v 0 +ℤ pos head) (width - head) in
+    let split : painted 0 runs width ≡ l ++ r =
+    painted_cells c v 0 0 runs width (width + 1) (omega arith) apart (λ i from below. all i (omega arith))
+    ∙ (ap (cells_from c (place v 0)) whole_width ∙ cells_append c head (width - head) (place v 0))
+    in
+    let length_l : length l ≡ head = length_cells c head (place v 0) in
+    (ap (take head) split ∙ take_at l r head length_l, ap (drop head) split ∙ drop_at l r head length_l)
+
 -- the first column
 first_low : (runs : List Stretch) (head limit : ℕ) → AreApart 0 runs limit → head < limit → (first_column runs head ≤ head) × AreApart (first_column runs head) runs limit
 unfolding AreApart first_column
@@ -235,7 +257,7 @@ ones_near m (suc k) c is x one =
     let (low, high) = ones_near m k b at x (sym (t.others x other) ∙ one) in
     (omega (arith, ints), omega (arith, ints)))
 
-counted : (z : ℤ) → pos 0 ≤ℤ z → (n : ℕ) × (z ≡ pos n)
+pub counted : (z : ℤ) → pos 0 ≤ℤ z → (n : ℕ) × (z ≡ pos n)
 counted (pos n) low = (n, refl)
 counted (negsuc n) low = absurd (omega (arith, ints))
 

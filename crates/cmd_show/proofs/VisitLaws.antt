@@ -92,7 +92,7 @@ visited_step old new first cells wider step stands reaches v =
     (subst (λ n. IsVisited (entry_of old.table) first n wider) (sym step.steps) (visited_more (entry_of old.table) first old.steps new.config cells wider v there reaches))
 
 -- the head was at a place at some time up to one
-record WasAt (m : Machine) (k : ℕ) (x : ℤ) : Type 0 where
+pub record WasAt (m : Machine) (k : ℕ) (x : ℤ) : Type 0 where
   pub time : ℕ
   pub there : Config
   pub early : time ≤ k
@@ -107,7 +107,7 @@ later : (m : Machine) (k : ℕ) (x : ℤ) → WasAt m k x → WasAt m (suc k) x
 later m k x was = let early = was.early in record { time = was.time; there = was.there; early = omega arith; is = was.is; head = was.head }
 
 -- ones stand only where the head was
-one_visited : (m : Machine) (k : ℕ) (c : Config) → after m k ≡ Some c → (x : ℤ) → cell c x ≡ One → WasAt m k x
+pub one_visited : (m : Machine) (k : ℕ) (c : Config) → after m k ≡ Some c → (x : ℤ) → cell c x ≡ One → WasAt m k x
 one_visited m zero c is x one =
     absurd (no_ones x (ap (λ (d : Config). cell d x) (same_Some start c (sym (from_zero m start) ∙ is)) ∙ one))
 one_visited m (suc k) c is x one =

@@ -14,6 +14,7 @@ pub mod Bitmap
 pub mod Asked
 pub mod Fold
 pub mod Tape
+pub mod Layout
 pub mod Moments
 pub mod Shown
 pub mod Picture

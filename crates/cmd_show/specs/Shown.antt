@@ -7,14 +7,19 @@ use Rattle.cmd_lines.specs.Answer.{fault_text}
 use Rattle.cmd_options.specs.declared.options.Showing.{Showing}
 use Rattle.cmd_options.specs.declared.outcome.Outcome.{Outcome}
 use Rattle.cmd_options.specs.declared.outcome.Outcome.TheVariants.{Accepted, Refused}
+use Rattle.cmd_show.specs.declared.layout.Layout.{Layout}
 use Rattle.cmd_show.specs.Asked.{table_asked}
+use Rattle.cmd_show.specs.Layout.{IsLayout}
 use Rattle.cmd_show.specs.Moments.{ShownMoment, AreLinesOf, shown_times}
+use Rattle.cmd_show.specs.Times.{last_time}
 
--- a table's text, and behind it the lines of its run from the blank tape
+-- a table's text, and behind it the lines of its run from the blank tape, laid out as it is asked for
 pub record IsShownRun (s : Showing) (t : Packed) (answer : List ℕ) : Type 0 where
+  pub layout : Layout
+  pub laid : IsLayout s (entry_of t) (last_time (shown_times s)) layout
   pub moments : List ShownMoment
   pub lines : List ℕ
-  pub are : AreLinesOf (entry_of t) (shown_times s) s.fold 0 moments lines
+  pub are : AreLinesOf (entry_of t) (shown_times s) layout 0 moments lines
   pub is : answer ≡ text_of t ++ lines
 
 -- of what isn't a table, nor a record of one, the fault

@@ -39,7 +39,7 @@ pub(crate) fn paint(
 }
 
 // Appends a byte so many times.
-fn append_many(byte: u8, count: u64, out: &mut Vec<u8>) -> Result<(), NoMemory>
+pub(crate) fn append_many(byte: u8, count: u64, out: &mut Vec<u8>) -> Result<(), NoMemory>
     ensures { OnOk result (out.new.items ≡ out.old.items ++ replicate count byte) }
 {
     match out.len().checked_add(count as usize) {

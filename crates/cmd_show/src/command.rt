@@ -1,5 +1,5 @@
 // `bb draw`: tables in, pictures out.
-ghost use Rattle.std.specs.Prelude.{IfErr, IfNone, IfOk, IfSome};
+ghost use Rattle.std.specs.Prelude.{◌≡◌, IfErr, IfNone, IfOk, IfSome};
 ghost use Rattle.cmd_options.specs.Ends.{PrintsNothing};
 ghost use Rattle.cmd_lines.specs.First.{EndsSaying, WritesFirst};
 ghost use Rattle.cmd_show.specs.Files.{DrawsFiles, DrawsFirstLines};
@@ -14,8 +14,9 @@ use std::alloc::Global;
 use std::io::{Read, Write};
 
 /// Reads a table or a record a line, and draws a space-time picture of each table: in a folder, where one is asked for, as
-/// `draw_files` does; else of the first alone, to `answers`, as `draw_first` does. What a failed stream or file or refused
-/// memory ends is said on `faults`: then what was said to the first lines is all that was, in full where memory was refused.
+/// `draw_files` does; else of the first alone, to `answers`, as `draw_first` does, and no file changes. What a failed stream
+/// or file or refused memory ends is said on `faults`: then what was said to the first lines is all that was, in full where
+/// memory was refused.
 pub fn cmd_draw<H: Files, R: Read, W: Write, E: Write>(
     alloc: Global,
     drawing: &Drawing<'_>,
@@ -31,6 +32,7 @@ pub fn cmd_draw<H: Files, R: Read, W: Write, E: Write>(
         (W.contents answers.old) (W.contents answers.new))
         (DrawsFirstLines H.tells_same H.holds folder.now drawing.now host.old (R.remaining input.old)
         (R.remaining input.new)) (W.contents answers.old) (W.contents answers.new) result) }
+    ensures stays { IfNone drawing.now.out (host.new ≡ host.old) }
 {
     told(
         draw_asked(alloc, drawing, host, input, answers, faults),
@@ -60,6 +62,7 @@ fn draw_asked<H: Files, R: Read, W: Write, E: Write>(
     ensures first_files { IfErr result (λ e. IfSome drawing.now.out (λ folder. WritesFirst (DrawsFirstLines H.tells_same
         H.holds folder.now drawing.now host.old (R.remaining input.old) (R.remaining input.new))
         (W.contents answers.old) (W.contents answers.new) e)) }
+    ensures stays { IfNone drawing.now.out (host.new ≡ host.old) }
     ensures err { IfErr result EndsDrawing }
 {
     match drawing.out {

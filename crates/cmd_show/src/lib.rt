@@ -3,7 +3,8 @@
 //! `specs/Asked` says which table a line asks for.
 //!
 //! *Text.* `specs/Tape` says what the text of a configuration's tape is, `specs/Fold` how words that repeat are folded in
-//! it, `specs/Moments` which times of a run have a line, `specs/Shown` what is answered.
+//! it, `specs/Layout` which cells each line has, where all have the same, `specs/Moments` which times of a run have a line,
+//! `specs/Shown` what is answered.
 //!
 //! *Pictures.* Time goes downwards, cells to the right, ones are dark. A `View` says which cells are drawn and how many
 //! share a column, `Times` which times, `Size` how large. `Rows` goes through a run and puts the configuration at each of
@@ -29,6 +30,7 @@ mod drawing;
 mod drawn;
 mod fold;
 mod laws;
+mod layout;
 mod line;
 mod lines;
 mod one;
@@ -52,6 +54,7 @@ mod style;
 mod times;
 mod tone;
 mod view;
+mod visiting;
 mod visits;
 
 pub use asked::table_asked;
@@ -62,6 +65,7 @@ pub use drawing::{draw_files, picture_path, put_picture};
 pub use drawn::Head;
 pub use fold::append_folded;
 pub use laws::{folded_is_all, paths_are_apart};
+pub use layout::{Frame, Layout};
 pub use one::{First, draw_first};
 pub use ones::Stretch;
 pub use picturing::picture_of;
@@ -75,3 +79,4 @@ pub use size::Size;
 pub use times::Times;
 pub use tone::Tone;
 pub use view::View;
+pub use visiting::Visits;

@@ -5,12 +5,14 @@ ghost use Rattle.law_turing.specs.Run.{Config, after};
 ghost use Rattle.law_turing.specs.Score.{score_of};
 ghost use Rattle.run.specs.Limits.{run_step_limit};
 ghost use Rattle.cmd_show.specs.Rows.{Shows, shown_row};
+ghost use Rattle.cmd_show.specs.Layout.{IsFrame, IsFramedText, IsLaidOut, as_long_as, dotted, time_text};
 ghost use Rattle.cmd_show.specs.Moments.{IsLine, ShownMoment};
 ghost use Rattle.cmd_show.specs.Tape.{AreSides, IsMarked, IsTapeText, space_behind};
-ghost use Rattle.cmd_show.specs.inside.Lines.{whole};
+ghost use Rattle.cmd_show.specs.inside.Lines.{IsRoomFor, framed, view_of, whole};
 
-use crate::cells::{first_column, paint};
+use crate::cells::{append_many, first_column, paint};
 use crate::fold::append_folded;
+use crate::layout::{Frame, Layout};
 use crate::row::Row;
 use machine_text::{State, Table};
 use run::Runner;
@@ -22,25 +24,105 @@ use text::append_number;
 pub(crate) fn append_line(
     alloc: Global,
     t: &Table,
-    fold: bool,
+    layout: Layout,
     row: &Row,
     cells: &mut Vec<u8>,
     out: &mut Vec<u8>,
 ) -> Result<(), NoMemory>
     requires time { row.now.time ≤ run_step_limit }
-    requires shows { Shows (entry_of t.now) whole (shown_row row.now) }
+    requires shows { Shows (entry_of t.now) (view_of layout) (shown_row row.now) }
+    requires fits { IsRoomFor layout (entry_of t.now) row.now.time }
     ensures { OnOk result ((at : Config) × (after (entry_of t.now) row.now.time ≡ Some at)
-        × (line : List ℕ) × IsLine (entry_of t.now) fold (record { time = row.now.time; at = at }) line
+        × (line : List ℕ) × IsLine (entry_of t.now) layout (record { time = row.now.time; at = at }) line
         × (out.new.items ≡ out.old.items ++ line)) }
 {
     out.extend_from_slice(b"\n")?;
-    append_number(row.time, out)?;
+    append_time(alloc, layout, row.time, out)?;
     out.extend_from_slice(b"  ")?;
-    append_tape(t, fold, row, cells, out)?;
+    append_laid_out(t, layout, row, cells, out)?;
     append_ending(alloc, t, row, out)
 }
 
+// Appends a time, in a frame as long as the last one.
+fn append_time(alloc: Global, layout: Layout, time: u64, out: &mut Vec<u8>) -> Result<(), NoMemory>
+    ensures { OnOk result (out.new.items ≡ out.old.items ++ time_text layout time) }
+{
+    match layout {
+        Layout::Plain | Layout::Folded => append_number(time, out),
+        Layout::Framed(frame) => append_padded(alloc, time, frame.last, out),
+    }
+}
+
+// Appends a time, with spaces in front where the last one is longer.
+fn append_padded(alloc: Global, time: u64, last: u64, out: &mut Vec<u8>) -> Result<(), NoMemory>
+    ensures { OnOk result (out.new.items ≡ out.old.items ++ as_long_as last time) }
+{
+    let mut longest = Vec::new(alloc);
+    append_number(last, &mut longest)?;
+    let mut digits = Vec::new(alloc);
+    append_number(time, &mut digits)?;
+    let spaces = longest.len().saturating_sub(digits.len());
+    append_many(b' ', spaces as u64, out)?;
+    out.extend_from_slice(&digits)
+}
+
 // Appends the tape of a row.
+fn append_laid_out(
+    t: &Table,
+    layout: Layout,
+    row: &Row,
+    cells: &mut Vec<u8>,
+    out: &mut Vec<u8>,
+) -> Result<(), NoMemory>
+    requires time { row.now.time ≤ run_step_limit }
+    requires shows { Shows (entry_of t.now) (view_of layout) (shown_row row.now) }
+    requires fits { IsRoomFor layout (entry_of t.now) row.now.time }
+    ensures { OnOk result ((at : Config) → after (entry_of t.now) row.now.time ≡ Some at
+        → (tape : List ℕ) × IsLaidOut layout at tape × (out.new.items ≡ out.old.items ++ tape)) }
+{
+    match layout {
+        Layout::Plain => append_tape(t, false, row, cells, out),
+        Layout::Folded => append_tape(t, true, row, cells, out),
+        Layout::Framed(frame) => append_framed(t, frame, row, cells, out),
+    }
+}
+
+// Appends the cells of a frame, with the head's mark before the cell of the head.
+fn append_framed(
+    t: &Table,
+    frame: Frame,
+    row: &Row,
+    cells: &mut Vec<u8>,
+    out: &mut Vec<u8>,
+) -> Result<(), NoMemory>
+    requires shows { Shows (entry_of t.now) (framed frame) (shown_row row.now) }
+    requires frame { IsFrame (entry_of t.now) frame }
+    requires early { row.now.time ≤ frame.last }
+    requires near { frame.last ≤ run_step_limit }
+    ensures { OnOk result ((at : Config) → after (entry_of t.now) row.now.time ≡ Some at
+        → (tape : List ℕ) × IsFramedText frame at tape × (out.new.items ≡ out.old.items ++ tape)) }
+{
+    // The proof needs that it is a table.
+    let _ = t.states();
+    let Some(head) = row.head else { unreachable!() };
+    paint(&row.dark, 0, frame.width, cells)?;
+    let (left, right) = cells.split_at(head as usize);
+    append_dotted(left, out)?;
+    append_mark(row.state, out)?;
+    append_dotted(right, out)
+}
+
+// Appends cells, with `.` for a blank one.
+fn append_dotted(cells: &[u8], out: &mut Vec<u8>) -> Result<(), NoMemory>
+    ensures { OnOk result (out.new.items ≡ out.old.items ++ dotted cells.now) }
+{
+    for cell in cells {
+        out.push(if *cell == b'0' { b'.' } else { *cell })?;
+    }
+    Ok(())
+}
+
+// Appends the cells of a row from the first to the last that holds a one or has the head.
 fn append_tape(
     t: &Table,
     fold: bool,

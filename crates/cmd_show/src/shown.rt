@@ -1,16 +1,16 @@
 // The run of a table as text.
-ghost use Rattle.std.specs.Prelude.{◌≡◌, ◌++◌, ◌≤◌, false, ℕ, List, IfOk, OnOk};
+ghost use Rattle.std.specs.Prelude.{◌≡◌, ◌++◌, false, ℕ, List, OnOk};
 ghost use Rattle.machine_text.specs.Packed.{entry_of};
-ghost use Rattle.cmd_show.specs.Times.{AreWithinRuns};
+ghost use Rattle.cmd_show.specs.Times.{AreWithinRuns, last_time};
 ghost use Rattle.cmd_show.specs.Moments.{AreLinesOf, ShownMoment, shown_times};
 ghost use Rattle.cmd_show.specs.Shown.{IsShownRun};
-ghost use Rattle.cmd_show.specs.inside.Lines.{whole};
+ghost use Rattle.cmd_show.specs.inside.Lines.{IsRoomFor, view_of};
 
+use crate::layout::Layout;
 use crate::line::append_line;
 use crate::row::Row;
 use crate::rows::Rows;
 use crate::times::Times;
-use crate::view::View;
 use cert::append_table;
 use cmd_options::Showing;
 use machine_text::Table;
@@ -18,7 +18,9 @@ use std::alloc::Global;
 use tape::NoMemory;
 
 /// Appends a table's text, and behind it a line for each time of its run from the blank tape that is asked for: the time, and
-/// the tape with the head in it. A run that halts ends with its last configuration, and with a line that says so.
+/// the tape with the head in it, folded where that is asked for. Where each row is to begin at the same cell, all have those
+/// that the head visits up to the last time that is asked for, and times are as long as that one. A run that halts ends with
+/// its last configuration, and with a line that says so.
 pub fn append_shown(
     alloc: Global,
     showing: &Showing,
@@ -29,8 +31,10 @@ pub fn append_shown(
         × (out.new.items ≡ out.old.items ++ answer)) }
 {
     append_table(t, out)?;
-    let mut rows = Rows::new(alloc, *t, whole(), shown_times(showing))?;
-    append_lines(alloc, t, showing.fold, &mut rows, out)
+    let times = shown_times(showing);
+    let layout = Layout::of(alloc, t, showing, times)?;
+    let mut rows = Rows::new(alloc, *t, layout.view(), times)?;
+    append_lines(alloc, t, layout, &mut rows, out)
 }
 
 // The times that are shown.
@@ -41,38 +45,28 @@ fn shown_times(showing: &Showing) -> Times
     Times::new(showing.from, showing.steps, showing.every)
 }
 
-// A view of all cells to which a run can come.
-fn whole() -> View
-    ensures { result ≡ whole }
-{
-    View {
-        left: -0x4000_0000_0000_0000,
-        width: 0x8000_0000_0000_0001,
-        share: 1,
-    }
-}
-
 // Appends the lines of all rows, from the first one on.
 fn append_lines(
     alloc: Global,
     t: &Table,
-    fold: bool,
+    layout: Layout,
     rows: &mut Rows,
     out: &mut Vec<u8>,
 ) -> Result<(), NoMemory>
     requires table { rows.old.table ≡ t.now }
-    requires view { rows.old.view ≡ whole }
+    requires view { rows.old.view ≡ view_of layout }
     requires within { AreWithinRuns rows.old.times }
     requires first { rows.old.number ≡ 0 }
     requires begins { rows.old.over ≡ false }
+    requires fits { IsRoomFor layout (entry_of t.now) (last_time rows.old.times) }
     ensures { OnOk result ((moments : List ShownMoment) × (lines : List ℕ)
-        × AreLinesOf (entry_of t.now) rows.old.times fold 0 moments lines
+        × AreLinesOf (entry_of t.now) rows.old.times layout 0 moments lines
         × (out.new.items ≡ out.old.items ++ lines)) }
 {
     let mut row = Row::new(alloc);
     let mut cells = Vec::new(alloc);
     'each: while rows.next_row(&mut row)? {
-        append_line(alloc, t, fold, &row, &mut cells, out)?;
+        append_line(alloc, t, layout, &row, &mut cells, out)?;
     }
     Ok(())
 }

@@ -108,11 +108,15 @@ AsksFor name rows (Check c) =
     (name ≡ codes "check") × IsFlag rows (codes "json") c.json × IsFlag rows (codes "why") c.why
 AsksFor name rows (Decide d) =
     (name ≡ codes "decide") × AsksSearch rows d.search × IsFlag rows (codes "json") d.json
+    × IsFlag rows (codes "keep") d.keep × IsNumberIf rows (codes "run") d.run
     × IsFlag rows (codes "progress") d.progress
-AsksFor name rows (Explain json) = (name ≡ codes "explain") × IsFlag rows (codes "json") json
+AsksFor name rows (Explain e) =
+    (name ≡ codes "explain") × IsFlag rows (codes "json") e.json × IsFlag rows (codes "dot") e.dot
+    × IsNumberIf rows (codes "run") e.run
 AsksFor name rows (Show s) =
     (name ≡ codes "show") × IsNumber rows (codes "from") s.from × IsNumber rows (codes "steps") s.steps
     × IsNumber rows (codes "every") s.every × IsFlag rows (codes "fold") s.fold
+    × IsFlag rows (codes "align") s.align
 AsksFor name rows (Tables l) =
     (name ≡ codes "tables") × IsFlag rows (codes "normal") l.normal × IsNumber rows (codes "steps") l.steps
     × IsFlag rows (codes "records") l.records

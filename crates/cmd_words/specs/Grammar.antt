@@ -132,6 +132,25 @@ draw_rules =
     ∷ why_rule
     ∷ []
 
+abbrev pub decide_rules : List Rule
+decide_rules =
+    lines_rules
+    ++ flag_option (codes "json")
+    ∷ tied (flag_option (codes "keep"))
+    ∷ text_option (codes "run")
+    ∷ flag_option (codes "progress")
+    ∷ why_rule
+    ∷ []
+
+abbrev pub explain_rules : List Rule
+explain_rules =
+    lines_rules
+    ++ tied (flag_option (codes "json"))
+    ∷ tied (flag_option (codes "dot"))
+    ∷ text_option (codes "run")
+    ∷ why_rule
+    ∷ []
+
 abbrev pub show_rules : List Rule
 show_rules =
     lines_rules
@@ -139,6 +158,7 @@ show_rules =
     ∷ text_option_or (codes "steps") (codes "100")
     ∷ text_option_or (codes "every") (codes "1")
     ∷ flag_option (codes "fold")
+    ∷ tied (flag_option (codes "align"))
     ∷ why_rule
     ∷ []
 
@@ -188,8 +208,8 @@ command name rules = record (new_app name).top { rules = rules }
 abbrev pub commands : List Shape
 commands =
     command (codes "check") (lines_rules ++ flag_option (codes "json") ∷ why_rule ∷ [])
-    ∷ command (codes "decide") (lines_rules ++ flag_option (codes "json") ∷ flag_option (codes "progress") ∷ why_rule ∷ search_rules)
-    ∷ command (codes "explain") (lines_rules ++ flag_option (codes "json") ∷ why_rule ∷ [])
+    ∷ command (codes "decide") (decide_rules ++ search_rules)
+    ∷ command (codes "explain") explain_rules
     ∷ command (codes "show") show_rules
     ∷ command (codes "draw") draw_rules
     ∷ command (codes "tables") tables_rules

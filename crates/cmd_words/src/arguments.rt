@@ -50,6 +50,11 @@ mod rows {
         default: Some("100"), help: "Show so many steps from there on" };
     pub(crate) const EVERY: Number = ranged! { name: "every", value: Some("E"), least: 1, most: 100_000_000,
         default: Some("1"), help: "Show every E-th configuration" };
+    // One number for the two commands that run a table alone.
+    pub(crate) const RUN_ALONE: Number = ranged! { name: "run", value: Some("K"), least: 1, most: 10_000_000_000,
+        default: None, help: "Look for halting and for loops alone, in K steps at most" };
+    pub(crate) const SEEN: Number = Number {
+        help: "Of a table without a certificate, say what is seen in K steps [1 to 10000000000]", ..RUN_ALONE };
     pub(crate) const RUN_STEPS: Number = ranged! { name: "steps", value: Some("K"), least: 0, most: 100_000_000,
         default: Some("1000000"), help: "With --normal, run a table for so many steps at most" };
 
@@ -132,6 +137,15 @@ mod rows {
         help: "Take a CR at a line's end, and pass over blank lines and comments, lines that begin with #" };
     pub(crate) const FOLD: Flag = Flag { name: "fold", needs: &[], excludes: &[],
         help: "Fold words that repeat, as in 1^12 (01)^5" };
+    pub(crate) const ALIGN: Flag = Flag { name: "align", needs: &[], excludes: &["fold"],
+        help: "Begin each row at the same cell, with a `.` for a cell that is blank" };
+    // An answer in JSON has the table as it came.
+    pub(crate) const KEEP: Flag = Flag { name: "keep", needs: &[], excludes: &["json"],
+        help: "Print the table of each answer as it came" };
+    // What is seen of a run is said in words alone.
+    pub(crate) const EXPLAIN_JSON: Flag = Flag { excludes: &["run"], ..LINE_JSON };
+    pub(crate) const DOT: Flag = Flag { name: "dot", needs: &[], excludes: &["json", "run"],
+        help: "Print the automata of each record in the language of Graphviz, in place of words" };
     pub(crate) const NORMAL: Flag = Flag { name: "normal", needs: &[], excludes: &[],
         help: "Name the states as the run reaches them, and mirror a table whose first move is to the left" };
     // A certificate is of the table as it stands.

@@ -370,6 +370,8 @@ With --json each answer is an object, as by `bb check --json`, with the record a
 Standard error shows the progress: at a terminal on one line that is written over, elsewhere with --progress, a line a
 second.
 
+With --run the numbers of a search and --hard aren't used; halting is looked for within 100,000,000 steps at most, and a
+table with no pair that halts still gets `B 0` where its run comes to no loop.
 Loops are looked for within 10,000,000 steps at most. Words of n-grams are tried by width from 1 on, automata by stages
 (docs/FINDERS.md); --count is of both sides together. --hard has its own stages, and can't be given with --depth,
 --gram, --far, --words, --count or --rules. With --hard --steps scales the stages: with a thousand times the default,
@@ -449,7 +451,9 @@ Exit status: 0 all accepted; 1 a line was refused; 2 a wrong command line; 3 out
 pub(crate) const EXPLAIN: &str =
     "Prints for each line the answer of `bb check`; then, for a record that stands, what its check has shown, in words; and
 then an empty line. With --json each line has an object, that of `bb check --json` with the words as the member
-`words`.
+`words`. With --dot the automata of a record of the kinds F, A and W are printed in the language of Graphviz instead,
+a graph each, and all else is a comment. With --run K a table without a certificate (a record with U, or a table alone)
+is run for K steps: when it halts is said, or which cells it visits and how they grow, with its first configurations.
 
   bb explain '1RB1LB_1LA--- H 6 4'
 
@@ -465,7 +469,9 @@ and `halts K ones S`.
 Lines are arguments (after `--` where one begins with `-`), or in the file of --input, or else on standard input.
 Two spaces are between the time and the tape. The last configuration of a run that halts is always shown. With --fold a
 word of at most 16 symbols that is repeated three times or more on one side of the head is written `1^4` or `(01)^3`,
-the shortest first. A line that is neither a table nor a record is refused as by `bb check`.
+the shortest first. With --align each line has the cells that the head visits up to the last time that is asked for, a
+blank one as `.`, and each time is as long as that one. A line that is neither a table nor a record is refused as by
+`bb check`.
 
 Exit status: 0 each line was a table or a record; 1 a line was refused; 2 a wrong command line; 3 out of memory
 (`refused memory`); 4 a stream failed (`refused 603`).";

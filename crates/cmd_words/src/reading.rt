@@ -11,9 +11,10 @@ use crate::numbers::number_read;
 use crate::words::{Flag, Text};
 use clap::ArgMatches;
 use cmd_options::{
-    COUNT, Carrying, Checking, DEPTH, Deciding, Drawing, Durability, FAR, GRAM, Joining,
-    LedgerFile, LedgerSettling, Listing, Looking, Mending, Merging, Number, Options, Paging, RULES,
-    Reporting, Retrying, Saving, Search, Settling, Showing, Splitting, WORDS, Walking, Working,
+    COUNT, Carrying, Checking, DEPTH, Deciding, Drawing, Durability, Explaining, FAR, GRAM,
+    Joining, LedgerFile, LedgerSettling, Listing, Looking, Mending, Merging, Number, Options,
+    Paging, RULES, Reporting, Retrying, Saving, Search, Settling, Showing, Splitting, WORDS,
+    Walking, Working,
 };
 
 // In place of a path: standard input.
@@ -28,7 +29,7 @@ pub(crate) fn asked<'a>(name: &str, command: &ArgMatches<'a>) -> Result<Options<
     match name {
         "check" => Ok(check_options(command)),
         "decide" => decide_options(command),
-        "explain" => Ok(explain_options(command)),
+        "explain" => explain_options(command),
         "show" => show_options(command),
         "tables" => tables_options(command),
         "coord" => coord_options(command),
@@ -174,17 +175,21 @@ fn decide_options<'a>(decide: &ArgMatches<'a>) -> Result<Options<'a>, LineFault>
     Ok(Options::Decide(Deciding {
         search: search_of(decide)?,
         json: flag_of(decide, LINE_JSON),
+        keep: flag_of(decide, KEEP),
+        run: number_if_given(decide, RUN_ALONE)?,
         progress: flag_of(decide, PROGRESS),
     }))
 }
 
-fn explain_options<'a>(explain: &ArgMatches<'a>) -> Options<'a>
-    ensures within { AreWithinRanges result }
-    ensures asked { AsksFor (codes "explain") (rows_found explain.now) result }
+fn explain_options<'a>(explain: &ArgMatches<'a>) -> Result<Options<'a>, LineFault>
+    ensures within { IfOk result AreWithinRanges }
+    ensures asked { IfOk result (AsksFor (codes "explain") (rows_found explain.now)) }
 {
-    Options::Explain {
-        json: flag_of(explain, LINE_JSON),
-    }
+    Ok(Options::Explain(Explaining {
+        json: flag_of(explain, EXPLAIN_JSON),
+        dot: flag_of(explain, DOT),
+        run: number_if_given(explain, SEEN)?,
+    }))
 }
 
 fn show_options<'a>(show: &ArgMatches<'a>) -> Result<Options<'a>, LineFault>
@@ -196,6 +201,7 @@ fn show_options<'a>(show: &ArgMatches<'a>) -> Result<Options<'a>, LineFault>
         steps: number_of(show, SHOWN)?,
         every: number_of(show, EVERY)?,
         fold: flag_of(show, FOLD),
+        align: flag_of(show, ALIGN),
     }))
 }
 

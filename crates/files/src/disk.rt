@@ -99,7 +99,7 @@ pub trait Disk {
     /// The SHA-256 of the running program's own bytes; none where they can't be read.
     fn program_sum(&self) -> Option<[u8; 32]>;
 
-    /// Whether what is said on standard error is shown on a terminal.
+    /// Whether standard error is shown on a terminal.
     fn tells_terminal(&self) -> bool;
 
     /// Says on a terminal that so many bytes were cut off the ledger at a path, and where they are.

@@ -106,7 +106,7 @@ pub trait Files {
         ensures kept { IsKept (holds self.old) (holds self.new) }
         ensures tells { IsToldStill (tells_same self.old) (tells_same self.new) };
 
-    /// Whether what is said on standard error is shown on a terminal.
+    /// Whether standard error is shown on a terminal.
     fn tells_terminal(&self) -> bool {
         false
     }

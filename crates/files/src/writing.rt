@@ -18,7 +18,7 @@ pub fn ledger_at<H: Files>(host: &mut H, file: &LedgerFile<'_>) -> Result<H::Led
     }
 }
 
-/// Begins a ledger that is written anew, to be put at a path once it is on the disk, while those at these paths are read.
+/// Begins a new ledger, to be put at a path once it is on the disk, while those at these paths are read.
 pub fn made_for<H: Files>(host: &H, out: &str, read: &[&str]) -> Result<H::Made, Ended>
     ensures { IfOk result (λ made. IsBlank (H.Made.text made)) }
 {

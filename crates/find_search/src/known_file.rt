@@ -72,7 +72,7 @@ fn path_in<'a>(asked: &Options<'a>) -> Option<&'a str>
         Options::Walk(walking) => walking.search.known,
         Options::Work(working) => working.search.known,
         Options::Check(_)
-        | Options::Explain { .. }
+        | Options::Explain(_)
         | Options::Show(_)
         | Options::Tables(_)
         | Options::Draw(_)

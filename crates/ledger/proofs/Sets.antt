@@ -1,5 +1,5 @@
 -- Maps of tables: which tables they have.
-use Rattle.std.proofs.Common.{◌≡◌, ◌≢◌, ℕ, Bool, true, false, cond, refl, sym, ◌∙◌, ap, subst, ◌⊎◌, inl, inr, ◌↔◌, List, [], ◌∷◌, zero, suc, arith, Some, None, Option, nat_eq, not}
+use Rattle.std.proofs.Common.{◌≡◌, ◌≢◌, ℕ, true, false, cond, refl, sym, ◌∙◌, ap, subst, ◌⊎◌, inl, inr, ◌↔◌, List, [], ◌∷◌, zero, suc, arith, Some, None, Option, unwrap_or, nat_eq, not, length, ◌+◌, if◌then◌else◌}
 use Rattle.std.specs.List.{Contains}
 use Rattle.cert.specs.Claim.{Recorded}
 use Rattle.ledger.specs.Records.{claim_in}
@@ -54,17 +54,14 @@ removed old new t q is =
       | false ↦ λ other same. (λ there. (sym (ap is_some same) ∙ there, λ (e : q ≡ t). let itself = subst (λ (p : Packed). is_at (table_cmp t) p ≡ true) (sym e) (at_itself t) in absurd (cc)), λ h. ap is_some same ∙ h.0)
     ] refl is
 
-pub inserted : (old new : BTreeMap Packed ℕ) (t q : Packed) (place : ℕ) → get table_cmp new q ≡ cond (is_at (table_cmp t) q) (Some place) (get table_cmp old q)
-    → ContainsKey table_cmp new q ↔ (ContainsKey table_cmp old q ⊎ (q ≡ t))
-inserted old new t q place is =
-    elim (is_at (table_cmp t) q) as (λ v. is_at (table_cmp t) q ≡ v → get table_cmp new q ≡ cond v (Some place) (get table_cmp old q) → ContainsKey table_cmp new q ↔ (ContainsKey table_cmp old q ⊎ (q ≡ t))) [
+pub inserted : (old new : List (Packed × ℕ)) (t q : Packed) (value : ℕ) → lookup (is_at (table_cmp q)) new ≡ cond (is_at (table_cmp t) q) (Some value) (lookup (is_at (table_cmp q)) old)
+    → (is_some (lookup (is_at (table_cmp q)) new) ≡ true) ↔ ((is_some (lookup (is_at (table_cmp q)) old) ≡ true) ⊎ (q ≡ t))
+inserted old new t q value is =
+    let has = λ (es : List (Packed × ℕ)). is_some (lookup (is_at (table_cmp q)) es) ≡ true in
+    elim (is_at (table_cmp t) q) as (λ v. is_at (table_cmp t) q ≡ v → lookup (is_at (table_cmp q)) new ≡ cond v (Some value) (lookup (is_at (table_cmp q)) old) → has new ↔ (has old ⊎ (q ≡ t))) [
       | true ↦ λ here there. (λ h. inr (sym (at_is t q here)), λ h. ap is_some there)
       | false ↦ λ other same. (λ there. inl (sym (ap is_some same) ∙ there), λ h. elim h [ inl there ↦ ap is_some same ∙ there | inr e ↦ let itself = subst (λ (p : Packed). is_at (table_cmp t) p ≡ true) (sym e) (at_itself t) in absurd (cc) ])
     ] refl is
-
--- a table that is there brings nothing new
-pub there_already : (old : BTreeMap Packed ℕ) (t q : Packed) → ContainsKey table_cmp old t → ContainsKey table_cmp old q ↔ (ContainsKey table_cmp old q ⊎ (q ≡ t))
-there_already old t q there = (λ h. inl h, λ h. elim h [ inl h ↦ h | inr e ↦ subst (λ (p : Packed). ContainsKey table_cmp old p) (sym e) there ])
 
 -- the members of a list with one more at its front
 first_or_later : (x : Packed) (xs : List Packed) (q : Packed) → Contains (x ∷ xs) q → (x ≡ q) ⊎ Contains xs q
@@ -165,6 +162,30 @@ pub others_inserted : (place : ℕ) (es : List (Packed × ℕ)) (t : Packed) →
 others_inserted place [] t none = rw (own_place place) refl
 others_inserted place (e ∷ es) t none = others_by place e es t (table_cmp t e.0) (others_inserted place es t) none
 
-pub no_key : (o : Option ℕ) (found : Bool) → found ≡ is_some o → found ≡ false → o ≡ None
-no_key None found is fails = refl
-no_key (Some n) found is fails = absurd (cc)
+-- a table that has a value in a map, put there again with that value, changes nothing
+kept_by : (t : Packed) (v : ℕ) (e : Packed × ℕ) (es : List (Packed × ℕ)) (o : Ordering)
+    → (lookup (is_at (table_cmp t)) es ≡ Some v → length (insert_entry table_cmp es t v) ≡ length es → insert_entry table_cmp es t v ≡ es)
+    → cond (is_eq o) (Some e.1) (lookup (is_at (table_cmp t)) es) ≡ Some v
+    → length (match_ordering o ((t, v) ∷ (e ∷ es)) ((e.0, v) ∷ es) (e ∷ insert_entry table_cmp es t v)) ≡ suc (length es)
+    → match_ordering o ((t, v) ∷ (e ∷ es)) ((e.0, v) ∷ es) (e ∷ insert_entry table_cmp es t v) ≡ e ∷ es
+kept_by t v e es Less later found as_long = absurd (omega arith)
+kept_by t v e es Equal later found as_long = let same : v ≡ e.1 = cc found in ap (λ (n : ℕ). (e.0, n) ∷ es) same
+kept_by t v e es Greater later found as_long = ap (λ (l : List (Packed × ℕ)). e ∷ l) (later found (omega arith))
+
+pub kept : (t : Packed) (v : ℕ) (es : List (Packed × ℕ)) → lookup (is_at (table_cmp t)) es ≡ Some v
+    → length (insert_entry table_cmp es t v) ≡ length es → insert_entry table_cmp es t v ≡ es
+kept t v [] found as_long = absurd (cc)
+kept t v (e ∷ es) found as_long = kept_by t v e es (table_cmp t e.0) (kept t v es) found as_long
+
+-- a table's value, or the place where it has none, put into a map
+pub entries_entered : (place : ℕ) (es new : List (Packed × ℕ)) (t : Packed) (value : Option ℕ) → value ≡ lookup (is_at (table_cmp t)) es
+    → new ≡ insert_entry table_cmp es t (unwrap_or value place) → length new ≡ length es + (if is_some value then 0 else 1)
+    → (new ≡ es) ⊎ (new ≡ insert_entry table_cmp es t place)
+entries_entered place es new t None is put long = inr put
+entries_entered place es new t (Some v) is put long = inl (put ∙ kept t v es (sym is) (ap length (sym put) ∙ long ∙ omega arith))
+
+pub others_entered : (place : ℕ) (es new : List (Packed × ℕ)) (t : Packed) (value : Option ℕ) → value ≡ lookup (is_at (table_cmp t)) es
+    → new ≡ insert_entry table_cmp es t (unwrap_or value place) → length new ≡ length es + (if is_some value then 0 else 1)
+    → others place new ≡ others place es
+others_entered place es new t None is put long = ap (others place) put ∙ others_inserted place es t (sym is)
+others_entered place es new t (Some v) is put long = ap (others place) (put ∙ kept t v es (sym is) (ap length (sym put) ∙ long ∙ omega arith))

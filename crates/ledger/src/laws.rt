@@ -27,7 +27,7 @@ ghost use Rattle.ledger.specs.LedgerText.{HasHeader, IsLedgerOf, IsTaken, ReadsA
 ghost use Rattle.ledger.specs.LedgerLaws.{ReadsAsFirst, IsLongest};
 
 /// After any list of offers to an empty board its records are those held of the fit ones among the offered
-/// records, but for those for which memory was refused.
+/// records, except for those for which memory was refused.
 pub fn offers_are_held()
     ensures { (root : Packed) (offers : List Offer) (rs : List Recorded) → IsTable root → AreOffered root [] offers rs →
         (kept : List Recorded) × AreKept root [] (answered offers) kept × (rs ≡ held_of kept) }

@@ -148,9 +148,8 @@ fn open_new(tables: &mut BTreeMap<Table, u32>, t: Table, place: u32) -> Result<(
     ensures entries { OnOk result ((tables.new.entries ≡ tables.old.entries)
         ⊎ (tables.new.entries ≡ insert_entry table_cmp tables.old.entries t place)) }
 {
-    if !tables.contains_key(&t) {
-        tables.insert(t, place)?;
-    }
+    // An open table keeps its opener.
+    tables.entry(t)?.or_insert(place);
     Ok(())
 }
 

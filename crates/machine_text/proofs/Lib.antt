@@ -9,4 +9,4 @@ pub mod Holes
 pub mod RoundTrip
 pub mod Order
 pub mod Ascii
-mod Differences
+mod Words

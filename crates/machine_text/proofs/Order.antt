@@ -14,21 +14,21 @@ use Rattle.machine_text.specs.Packed.{Packed, IsTable, coded_entry, entry_of}
 use Rattle.machine_text.specs.Text.{entry_text, row_text, text_of}
 use Rattle.machine_text.proofs.Rows.{rows, length-entry_text, length-row_text}
 
-abbrev compared : List ℕ → List ℕ → Ordering
+abbrev pub compared : List ℕ → List ℕ → Ordering
 compared xs ys = slice_cmp nat_cmp xs ys
 
-then_assoc : (a b c : Ordering) → ordering_then (ordering_then a b) c ≡ ordering_then a (ordering_then b c)
+pub then_assoc : (a b c : Ordering) → ordering_then (ordering_then a b) c ≡ ordering_then a (ordering_then b c)
 then_assoc Less b c = refl
 then_assoc Equal b c = refl
 then_assoc Greater b c = refl
 
-then_equal : (a : Ordering) → ordering_then a Equal ≡ a
+pub then_equal : (a : Ordering) → ordering_then a Equal ≡ a
 then_equal Less = refl
 then_equal Equal = refl
 then_equal Greater = refl
 
 -- what stands before, where it is as long on both sides, decides first
-compared-append : (xs ys zs ws : List ℕ) → length xs ≡ length ys → compared (xs ++ zs) (ys ++ ws) ≡ ordering_then (compared xs ys) (compared zs ws)
+pub compared-append : (xs ys zs ws : List ℕ) → length xs ≡ length ys → compared (xs ++ zs) (ys ++ ws) ≡ ordering_then (compared xs ys) (compared zs ws)
 compared-append [] [] zs ws same = refl
 compared-append [] (y ∷ ys) zs ws same = absurd (omega arith)
 compared-append (x ∷ xs) [] zs ws same = absurd (omega arith)

@@ -1,5 +1,6 @@
--- What only the code needs: the text of a table byte by byte as it is written, and entry by entry as it is read.
-use Rattle.std.specs.Prelude.{ℕ, ◌+◌, ◌/◌, ◌%◌, ◌==◌, ◌&&◌, Bool, if◌then◌else◌, List, Option, Some, None, slice_index, slice_set}
+-- What only the code needs: the text of a table byte by byte as it is written, and entry by entry as it is read; and the number
+-- that several bytes are.
+use Rattle.std.specs.Prelude.{ℕ, ◌+◌, ◌*◌, ◌/◌, ◌%◌, ◌==◌, ◌&&◌, Bool, if◌then◌else◌, List, [], ◌∷◌, Option, Some, None, slice_index, slice_set}
 use Rattle.machine_text.specs.declared.transition.Entry.{Entry}
 use Rattle.machine_text.specs.Packed.{Packed, symbol_of, code_of, entry_of}
 use Rattle.machine_text.specs.Text.{symbol_byte, direction_byte, may_begin, may_direct, may_end, entry_named}
@@ -30,3 +31,11 @@ entry_fits n text i =
 
 abbrev pub code_at : ℕ → List ℕ → ℕ → Option ℕ
 code_at n text i = if entry_fits n text i then Some (code_of (entry_named n text i)) else None
+
+-- bytes as the digits of one number, the first of them highest, behind the digits of another number or alone
+abbrev pub word_behind : ℕ → List ℕ → ℕ
+word_behind n [] = n
+word_behind n (b ∷ bs) = word_behind (256 * n + b) bs
+
+abbrev pub word_of : List ℕ → ℕ
+word_of bytes = word_behind 0 bytes

@@ -51,6 +51,14 @@ impl Code {
         })
     }
 
+    /// The byte itself.
+    #[inline]
+    pub fn byte(self) -> u8
+        ensures { result ≡ self }
+    {
+        self.byte
+    }
+
     /// Whether the code is that of no entry.
     pub fn is_undefined(self) -> bool
         ensures { result ≡ (self == 0) }

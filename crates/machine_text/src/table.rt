@@ -1,9 +1,8 @@
 // A table, one byte an entry.
-ghost use Rattle.std.specs.Prelude.{◌≡◌, ℕ, None, ◌==◌, ◌+◌, ◌*◌, ◌<◌, ◌≤◌, ◌≢◌, IfSome, Ok, length, slice_index, EachIndex, count_by};
-ghost use Rattle.std.specs.Ordering.{nat_cmp};
-ghost use Rattle.std.specs.Cmp.Lexicographic.{slice_cmp};
+ghost use Rattle.std.specs.Prelude.{◌≡◌, ℕ, None, ◌==◌, ◌+◌, ◌*◌, ◌<◌, ◌≤◌, ◌≢◌, IfSome, Ok, [], ◌∷◌, ◌++◌, length, take, drop, slice_index, EachIndex, count_by};
 ghost use Rattle.machine_text.specs.Limits.{state_limit, text_byte_limit};
 ghost use Rattle.machine_text.specs.Packed.{pair_place};
+ghost use Rattle.machine_text.specs.inside.{word_of};
 
 use crate::code::Code;
 use crate::faults::TextFault;
@@ -52,7 +51,7 @@ impl PartialOrd for Table {
     }
 }
 
-// By hand, since maps of tables compare them all the time: codes that are the same are passed over in one loop.
+// By hand, since maps of tables compare them all the time: two words in place of a loop over bytes.
 impl Ord for Table {
     ghost use Rattle.std.specs.Cmp.Rules.{comparing};
     ghost use Rattle.std.proofs.Common.{rules};
@@ -68,11 +67,8 @@ impl Ord for Table {
     ghost matches_eq = { table_ties };
 
     fn cmp(&self, other: &Table) -> Ordering {
-        // The codes come first: they decide the order before the number of states does.
-        match first_difference(&self.codes, &other.codes) {
-            Some((mine, its)) => mine.cmp(&its),
-            None => self.states.cmp(&other.states),
-        }
+        let first = self.first_word().cmp(&other.first_word());
+        first.then(self.last_word().cmp(&other.last_word()))
     }
 }
 
@@ -169,20 +165,44 @@ impl Table {
     {
         undefined_among(&self.codes[..2 * self.states as usize]) as u8
     }
-}
 
-// The first two codes that differ, if any do.
-fn first_difference(a: &[Code; MAX_ENTRIES], b: &[Code; MAX_ENTRIES]) -> Option<(Code, Code)>
-    ensures some { IfSome result (λ pair. (slice_cmp nat_cmp a.now b.now ≡ nat_cmp pair.0 pair.1) × (pair.0 ≢ pair.1)) }
-    ensures none { result ≡ None → a.now ≡ b.now }
-{
-    for place in 0..MAX_ENTRIES {
-        let (mine, its) = (a[place], b[place]);
-        if mine != its {
-            return Some((mine, its));
-        }
+    // The first eight codes as one number, in whose order they are.
+    #[inline]
+    fn first_word(&self) -> u64
+        ensures word { result ≡ word_of (take 8 self.now.codes) }
+        ensures table { IsTable self.now }
+    {
+        let codes = &self.codes;
+        u64::from_be_bytes([
+            codes[0].byte(),
+            codes[1].byte(),
+            codes[2].byte(),
+            codes[3].byte(),
+            codes[4].byte(),
+            codes[5].byte(),
+            codes[6].byte(),
+            codes[7].byte(),
+        ])
     }
-    None
+
+    // The other codes and the number of states likewise. The eighth code is in both words, so that each of
+    // them can be read at once.
+    #[inline]
+    fn last_word(&self) -> u64
+        ensures { result ≡ word_of (drop 7 self.now.codes ++ self.now.states ∷ []) }
+    {
+        let codes = &self.codes;
+        u64::from_be_bytes([
+            codes[7].byte(),
+            codes[8].byte(),
+            codes[9].byte(),
+            codes[10].byte(),
+            codes[11].byte(),
+            codes[12].byte(),
+            codes[13].byte(),
+            self.states,
+        ])
+    }
 }
 
 // How many of the codes are those of no entry.

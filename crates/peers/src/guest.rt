@@ -332,7 +332,7 @@ impl Model for Guest {
 }
 
 impl Guest {
-    /// One to whom this nonce is said, and of whom nothing has come.
+    /// One who was given this nonce, and has sent nothing yet.
     pub fn new(alloc: Global, nonce: Digits) -> Guest
         ensures { result ≡ record { nonce = nonce; come = [] } }
     {

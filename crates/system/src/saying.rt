@@ -13,14 +13,14 @@ pub struct Wording {
 }
 
 impl Wording {
-    /// Whether all is said.
+    /// Whether all words are printed.
     pub fn are_all(self, is_terminal: bool) -> bool
         ensures { result ≡ (is_terminal || self.why) }
     {
         is_terminal || self.why
     }
 
-    /// Whether it is said what is cut off a ledger, and where that is kept.
+    /// Whether words are printed of what is cut off a ledger, and of where that is kept.
     pub fn have_cuts(self, is_terminal: bool) -> bool
         ensures { result ≡ ((is_terminal || self.why) || not self.is_terse) }
     {

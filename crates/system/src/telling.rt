@@ -27,7 +27,7 @@ pub trait ReadingTold {
     /// How much is read of the file at a path, or of the files in the folder there, is told so from now on.
     fn tell_reading(&self, telling: Telling, path: &str);
 
-    /// Something else is said: it has a line of its own.
+    /// Something else is printed, on a line of its own.
     fn pause_reading(&self);
 
     /// Nothing is told any more.

@@ -79,8 +79,8 @@ pub fn many_parts_are_held()
         mark_in (joined_with rs parts) t ≡ mark_in (joined_with rs others) t }
 {}
 
-/// Two lists of records that are held from a root and say the same of each table are told of in the same way: the same
-/// status, the same tally, and the same champions and holdouts in the same order. So the report of a whole is byte for byte
+/// Two lists of records that are held from a root and say the same of each table have the same report: the same status, the
+/// same tally, and the same champions and holdouts in the same order. So the report of a whole is byte for byte
 /// that of any one board that holds all its records, in whichever order they came.
 pub fn boards_that_agree_tell_the_same()
     ensures status { (root : Packed) (rs others : List Recorded) (a b : HowItStands) → IsHeld root rs

@@ -99,7 +99,7 @@ impl MemLink {
         self.trouble.slow = slow;
     }
 
-    /// The count of its failures; after 18446744073709551615 it begins anew.
+    /// The count of its failures; after 18446744073709551615 it begins again at 0.
     pub fn failures(&self) -> u64
         ensures { result ≡ self.now.trouble.failures }
     {

@@ -6,6 +6,7 @@ use Rattle.cmd_options.specs.declared.outcome.Outcome.{Outcome}
 use Rattle.cmd_lines.specs.Lines.{AreOneLineEach}
 use Rattle.cmd_lines.specs.First.{IsSaidToFirst}
 use Rattle.cmd_lines.specs.Said.{AreTakenBy, first_fault}
+use Rattle.cmd_lines.specs.Stream.{SaysAnswer}
 use Rattle.cmd_lines.specs.Taken.{HasTakenLines, TakesMore}
 
 -- whatever was taken of a text before, it is so of the text up to what is left of the piece
@@ -52,3 +53,9 @@ pub record SaysBut {D : Type 0} (Takes : D → BoundedLine → Outcome → D →
   pub said : List ℕ
   pub first : IsSaidToFirst Takes start read new_read (said ++ waits)
   pub written : Appends held new_held said
+
+-- one who says what is asked for, and keeps that
+abbrev pub KeepsForm : {D A : Type 0} → (D → A) → (A → BoundedLine → Outcome → List ℕ → Type 0) → D → BoundedLine
+    → Outcome → D → List ℕ → Type 0
+KeepsForm {D} {A} asked Says old line o new said =
+    (asked new ≡ asked old) × SaysAnswer (Says (asked old)) old line o new said

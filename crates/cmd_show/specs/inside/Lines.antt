@@ -1,18 +1,39 @@
 -- What only the code needs.
-use Rattle.std.specs.Prelude.{◌≡◌, ℕ, ◌+◌, ◌-◌, ◌^◌, Bool, true, false, pos, ◌-ℤ◌, min, List, [], ◌∷◌, ◌++◌, replicate}
+use Rattle.std.specs.Prelude.{◌≡◌, ℕ, ◌+◌, ◌-◌, ◌≤◌, ◌^◌, Bool, true, false, pos, ◌-ℤ◌, min, List, [], ◌∷◌, ◌++◌, replicate}
 use Rattle.law_turing.specs.Machine.{Machine}
+use Rattle.run.specs.Limits.{run_step_limit}
 use Rattle.text.specs.Lines.{BoundedLine}
+use Rattle.cmd_show.specs.declared.layout.Frame.{Frame}
+use Rattle.cmd_show.specs.declared.layout.Layout.{Layout}
+use Rattle.cmd_show.specs.declared.layout.Layout.TheVariants.{Plain, Folded, Framed}
 use Rattle.cmd_show.specs.declared.ones.Stretch.{Stretch}
 use Rattle.cmd_show.specs.declared.times.Times.{Times}
 use Rattle.cmd_show.specs.declared.view.View.{View}
 use Rattle.cmd_options.specs.declared.options.Showing.{Showing}
 use Rattle.cmd_options.specs.declared.outcome.Outcome.{Outcome}
+use Rattle.cmd_show.specs.Layout.{IsFrame}
 use Rattle.cmd_show.specs.Moments.{ShownMoment, AreLinesOf}
 use Rattle.cmd_show.specs.Shown.{SaysShown}
 
 -- a view of all cells to which a run can come
 abbrev pub whole : View
 whole = record { left = pos 0 -ℤ pos (2 ^ 62); width = 2 ^ 63 + 1; share = 1 }
+
+-- a view of the cells of a frame
+abbrev pub framed : Frame → View
+framed f = record { left = f.left; width = f.width; share = 1 }
+
+-- a view of the cells that the lines of a layout may have
+abbrev pub view_of : Layout → View
+view_of Plain = whole
+view_of Folded = whole
+view_of (Framed f) = framed f
+
+-- a frame is one of the run, up to a time at least
+abbrev pub IsRoomFor : Layout → Machine → ℕ → Type 0
+IsRoomFor Plain m time = Unit {0}
+IsRoomFor Folded m time = Unit {0}
+IsRoomFor (Framed f) m time = IsFrame m f × (time ≤ f.last) × (f.last ≤ run_step_limit)
 
 -- the first column that holds a one or has the head
 unfoldable pub first_column : List Stretch → ℕ → ℕ
@@ -26,14 +47,14 @@ painted column (r ∷ runs) least = replicate (r.first - column) 48 ++ replicate
     ++ painted (r.first + r.count) runs least
 
 -- the lines that may follow when so many moments are told, where the machine has halted or not
-abbrev pub AreLeft : Machine → Times → Bool → Bool → ℕ → List ShownMoment → List ℕ → Type 0
-AreLeft m t fold true n later text = (later ≡ []) × (text ≡ [])
-AreLeft m t fold false n later text = AreLinesOf m t fold n later text
+abbrev pub AreLeft : Machine → Times → Layout → Bool → ℕ → List ShownMoment → List ℕ → Type 0
+AreLeft m t layout true n later text = (later ≡ []) × (text ≡ [])
+AreLeft m t layout false n later text = AreLinesOf m t layout n later text
 
 -- lines that were told: with any that may follow they are all
-pub record AreTold (m : Machine) (t : Times) (fold over : Bool) (n : ℕ) (told : List ℕ) : Type 0 where
-  pub with_rest : (later : List ShownMoment) (rest : List ℕ) → AreLeft m t fold over n later rest
-      → (all : List ShownMoment) × AreLinesOf m t fold 0 all (told ++ rest)
+pub record AreTold (m : Machine) (t : Times) (layout : Layout) (over : Bool) (n : ℕ) (told : List ℕ) : Type 0 where
+  pub with_rest : (later : List ShownMoment) (rest : List ℕ) → AreLeft m t layout over n later rest
+      → (all : List ShownMoment) × AreLinesOf m t layout 0 all (told ++ rest)
 
 -- one who says what is asked for, and keeps that
 abbrev pub KeepsAsked : {D : Type 0} → (D → Showing) → D → BoundedLine → Outcome → D → List ℕ → Type 0

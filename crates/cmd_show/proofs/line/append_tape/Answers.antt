@@ -1,14 +1,15 @@
 use Rattle.std.proofs.Common.{take, drop, true, false, ◌∙◌, ap}
 use Rattle.machine_text.specs.Packed.{entry_of}
 use Rattle.cmd_show.specs.Rows.{shown_row}
+use Rattle.cmd_show.specs.inside.Lines.{whole}
 use Rattle.cmd_show.proofs.LineLaws.{ok_then, state_low, tape_text}
 use Rattle.cmd_show.proofs.line.append_tape.Goals as goal
 
 pub append_both_folded-requires : goal.append_both_folded-requires
-append_both_folded-requires c = state_low c.args.t.now (shown_row c.args.row.now) c.states.ensures.table c.requires.shows
+append_both_folded-requires c = state_low c.args.t.now whole (shown_row c.args.row.now) c.states.ensures.table c.requires.shows
 
 pub append_both-requires : goal.append_both-requires
-append_both-requires c = state_low c.args.t.now (shown_row c.args.row.now) c.states.ensures.table c.requires.shows
+append_both-requires c = state_low c.args.t.now whole (shown_row c.args.row.now) c.states.ensures.table c.requires.shows
 
 pub returns-then-fold : goal.returns-then-fold
 returns-then-fold c =

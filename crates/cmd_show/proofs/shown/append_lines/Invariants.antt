@@ -10,7 +10,7 @@ invariant-each l = record {
   table : l.rows.table ≡ l.fn.rows.table;
   view : l.rows.view ≡ l.fn.rows.view;
   times : l.rows.times ≡ l.fn.rows.times;
-  told : (done : List ℕ) × (l.out.items ≡ l.fn.out.items ++ done) × AreTold (entry_of l.t) l.fn.rows.times l.fold l.rows.over l.rows.number done;
+  told : (done : List ℕ) × (l.out.items ≡ l.fn.out.items ++ done) × AreTold (entry_of l.t) l.fn.rows.times l.layout l.rows.over l.rows.number done;
 }
 
 abbrev pub decreases-each : goal.decreases-each

@@ -2,21 +2,24 @@
 """The ways of a new user, on the built program in an empty folder: stress/user.py [PROGRAM].
 
 README's first steps (packaging/first_steps); the help of each command that README's table has, long and short; a list as people
-keep it, with CR LF, comments, CSV, links, blank and doubled lines, through `bb tables`, `bb decide --hard` and `bb check`, each of
-its lines accounted for; a list by several processes; what can't be read, is compressed or was cut, which is named, at a terminal and elsewhere; tables and records as arguments and
-in files, and why a line is refused; a worker whose coordinator isn't there, and a coordinator and workers of which some are
-killed; answers of which only the beginning is read; wrong command lines; a file given where lines are read, and lines where a
-file is; trees in parts by the scripts of contrib/, from another folder, with too little
-disk, with a part that can't be settled, as they are packaged, and beside the plain judge that README names; what bash completes,
-and the Debian package, which are made of the kept program where bash and dpkg-deb are there. What has to come is from README,
-docs/FORMATS.md, docs/TOUR.md and docs/FIVE.md. Prints what differs, and how much was tried; ends with 1 where anything differs.
+keep it, with CR LF, comments, CSV, links, blank and doubled lines, through `bb tables`, `bb decide --hard` and `bb check`, each
+of its lines accounted for; a list by several processes; what can't be read, is compressed or was cut, which is named, at a
+terminal and elsewhere; tables and records as arguments and in files, and why a line is refused; a worker whose coordinator
+isn't there, and a coordinator and workers of which some are killed, or too many come; how far a command is; answers of which
+only the beginning is read; wrong command lines; a file given where lines are read, and lines where a file is; trees in parts by
+the scripts of contrib/, from another folder, with too little disk, with a part that can't be settled, as they are packaged, and
+beside the plain judge that README names; what bash completes, and the Debian package, which are made of the kept program where
+bash and dpkg-deb are there. What has to come is from README, docs/FORMATS.md, docs/TOUR.md and docs/FIVE.md. Prints what
+differs, and how much was tried; ends with 1 where anything differs.
 """
 import os
 import re
 import shutil
+import socket
 import subprocess
 import sys
 import tempfile
+import time
 import tty
 
 TOP = os.path.dirname(os.path.dirname(os.path.abspath(__file__)))
@@ -392,6 +395,55 @@ def cluster(tries):
     tries.expect((status, said) == (0, due), f"a coordinator that goes on: {status}, {said!r}, {faults!r}")
 
 
+def heard(connection, seconds):
+    """What a coordinator sends at once: nothing where it closes the connection, and None where it waits."""
+    connection.settimeout(seconds)
+    try:
+        return connection.recv(1)
+    except TimeoutError:
+        return None
+
+
+def crowd(tries):
+    """From one address no more connections are taken than --per-address says."""
+    try:
+        with socket.create_server(("127.0.0.1", 0)) as server:
+            address = server.getsockname()
+            socket.create_connection(address).close()
+    except OSError:
+        print("user: nothing can connect here, and no crowd was tried")
+        return
+    tries.count += 1
+    asked = ["bb", "coord", "2", "--listen", str(address[1]), "--per-address", "2"]
+    with subprocess.Popen(asked, cwd=tries.here, env=tries.environment, stdout=subprocess.DEVNULL, stderr=subprocess.PIPE) as begun:
+        connections = []
+        for _ in range(PATIENCE * 10):
+            try:
+                connections.append(socket.create_connection(address))
+            except ConnectionRefusedError:
+                time.sleep(0.1)
+            if len(connections) == 3:
+                break
+        # The last one is let go; by then the others have been taken.
+        found = [heard(connection, seconds) for connection, seconds in zip(reversed(connections), (30, 0.2, 0.2))]
+        begun.kill()
+        told = begun.communicate()[1]
+    tries.expect(found == [b"", None, None], f"coord --per-address 2, of three connections the last one first: {found}, {told!r}")
+
+
+def progress(tries):
+    """How far a command is that reads long, where that is asked for: it is stopped for a second, so that it takes longer."""
+    if not shutil.which("xz"):
+        print("user: there is no xz, and no long ledger was read")
+        return
+    ledger = os.path.join(TOP, "examples", "four-states.ledger.xz")
+    tries.run(f"mkdir big && xz -dc {ledger} > big/trunk.ledger")
+    for command in ("bb report big/trunk.ledger", "bb join big"):
+        status, _, faults = tries.run(f"{command} --progress > reported & p=$!; sleep 0.2; kill -STOP $p; sleep 1.2; kill -CONT $p; wait $p")
+        tries.expect(status == 0 and re.search(r"^\d+\.\d% of \d+ bytes read", faults), f"{command} --progress: {status}, {faults!r}")
+    tries.run("rm -r big reported")
+
+
 # What `bb join` has to say of two states.
 TWO_STATES = "nodes 61\nhalting 19\nnever 42\nholdouts 0\nopen 0\nbest 6\n"
 # A program that takes its time for a part, and a system whose disk is full.
@@ -508,6 +560,8 @@ def main():
         named(tries)
         given(tries)
         cluster(tries)
+        crowd(tries)
+        progress(tries)
         trees(tries, program)
         packages(tries, program)
     for text in tries.found:

@@ -7,6 +7,7 @@
 # program (bb beside contrib/ if it isn't set), FILLED how many entries the tables of the trunk have (as in contrib/tree.sh if it
 # isn't set). DIR is made; a run that was stopped goes on from it. A part that fails is named with its exit status, the others go
 # on, and the script ends with 1.
+case $1 in --help | -h) sed -n '2,$ { /^#/!q; /^#SBATCH/d; s/^# \{0,1\}//p; }' "$0"; exit ;; esac
 set -e
 states=${1:?"contrib/coordinators.sh N DIR [OPTIONS..]"}
 folder=${2:?"contrib/coordinators.sh N DIR [OPTIONS..]"}
@@ -21,10 +22,15 @@ find "$folder" -name '*.ledger' ! -name trunk.ledger | sort | xargs -P "$jobs" -
     part=$1 workers=$2 working=
     shift 2
     place=$(mktemp -d)
-    trap "kill \$working 2> /dev/null || :; rm -rf \"$place\"" EXIT
+    coordinator=
+    trap "kill \$working \$coordinator 2> /dev/null || :; rm -rf \"$place\"" EXIT
+    trap "exit 130" INT TERM HUP
     "$0" coord "$part" --listen "$place/socket" --accept-holdouts > "$place/report" &
     coordinator=$!
-    until [ -S "$place/socket" ] || ! kill -0 "$coordinator" 2> /dev/null; do sleep 0.01; done
+    until [ -S "$place/socket" ]; do
+        kill -0 "$coordinator" 2> /dev/null || { wait "$coordinator" || echo "$part: status $?" >&2; exit 1; }
+        sleep 0.01
+    done
     for process in $(seq "$workers"); do
         "$0" work --connect "$place/socket" --id $((process * 64)) --ids 16 "$@" 2> /dev/null &
         working="$working $!"

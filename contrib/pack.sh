@@ -4,6 +4,7 @@
 #   contrib/pack.sh DIR | xz -T0 > DIR.xz
 #   xz -dc DIR.xz | bb join -
 # A part that was compressed (PART.xz) is read so; where PART stands too, that counts.
+case $1 in --help | -h) sed -n '2,$ { /^#/!q; /^#SBATCH/d; s/^# \{0,1\}//p; }' "$0"; exit ;; esac
 set -e
 folder=${1:?"contrib/pack.sh DIR"}
 export LC_ALL=C

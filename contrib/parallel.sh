@@ -8,6 +8,7 @@
 # Every ten seconds, or every EVERY seconds, standard error says how far it is. A part that fails is named with its exit status,
 # the others go on, and the script ends with 1. DIR/parallel.log has a line for each part: its status, what bb settle printed, and
 # its name.
+case $1 in --help | -h) sed -n '2,$ { /^#/!q; /^#SBATCH/d; s/^# \{0,1\}//p; }' "$0"; exit ;; esac
 set -e
 compress=
 [ "$1" != --xz ] || { compress=--xz; shift; }

@@ -2,6 +2,7 @@
 # Settles one part of a tree, and ends as bb settle does; with --xz a part that is done is then compressed:
 #   contrib/part.sh [--xz] PROGRAM PART [OPTIONS OF bb settle..]
 # PART.xz takes the place of PART. Where both stand PART counts: what was killed while it compressed is begun again.
+case $1 in --help | -h) sed -n '2,$ { /^#/!q; /^#SBATCH/d; s/^# \{0,1\}//p; }' "$0"; exit ;; esac
 compress=
 [ "$1" != --xz ] || { compress=yes; shift; }
 bb=${1:?"contrib/part.sh [--xz] PROGRAM PART [OPTIONS..]"}

@@ -1,31 +1,45 @@
 #!/bin/sh
-# Walks a share of the tree of six states on all processors of this machine, and adds up what was walked:
-#   contrib/six.sh DIR SHARE [--seed S | --from K] [OPTIONS OF bb walk..]
-#   contrib/six.sh --sum DIR
-#   contrib/six.sh --again DIR COUNT [--seed S] [OPTIONS OF bb walk..]
+# Walks the tree of six states by groups, on all processors of this machine, and adds up what was walked:
+#   contrib/six.sh DIR --groups FROM-TO [--hours H]   walks groups that aren't walked yet
+#   contrib/six.sh DIR --again G                      walks a group once more, and compares
+#   contrib/six.sh DIR --sum                          what all groups in DIR come to, as a report
+#   contrib/six.sh DIR --holdouts                     the tables that are left, a line each
+#   contrib/six.sh DIR --begin COMMIT OPTIONS..       makes DIR, for the program of a commit and these options of bb walk
+# examples/six is such a DIR, and what was walked so far.
+#
 # The tables with fewer than six filled entries are the trunk. The children of those of them that halt with five, 241,368, are the
-# roots, as `bb split 6 DIR --filled 6 --hard` has them, and their trees are disjoint. SHARE is a number of roots, or a part of
-# them as in 1/100. They are drawn by chance with the seed S (1 if it isn't set), and a larger share of the same seed has the
-# smaller one in it; or they are the roots from number K on, in the order of their names, the first is 1. Without options of
-# bb walk it takes --hard.
+# roots, and their trees are disjoint. Group G, from 0 to 241, is the roots 1000 G + 1 to 1000 G + 1000 by name. Groups are
+# independent of one another, so machines can share them. A walk is by one program with one set of options, whose names `about`
+# has: git gives the program back (git show COMMIT:dist/bb-linux-x86_64), and any other is refused.
 #
-# DIR is made; a run that was stopped goes on from it. A root that was walked has DIR/walked/ROOT.xz, which holds the report of its
-# walk, and then the records that took long to find. Nothing else is kept, except the processor's seconds and the memory of each
-# walk, where GNU time is installed. Every ten seconds, or every EVERY seconds, standard error says how many roots are walked.
+# DIR has
+#   about      commit and SHA-256 of the program, its version, the options, the SHA-256 of the list of roots
+#   trunk.xz   the records of the trunk, by bb decide --hard
+#   GGG.xz     of each root of the group, in order, a line `nodes halting never holdouts best ones`, and behind it its holdouts; its
+#              champions where its best is the group's; made once and never changed
+#   sums       a line a group: G, the SHA-256 of its text, tables, holdouts, processor seconds
+#   begun/     roots that are walked of groups that aren't whole yet; nothing else is left by a run that was stopped
 #
-# --sum says what all walked roots come to, what that says of the whole tree, and which tables are left. --again walks so many of
-# the walked roots once more, each with the records that were kept of it, and compares the reports, byte for byte: whoever is given
-# DIR can judge it so. BB names the program (bb beside contrib/ if it isn't set), JOBS how many walks go on at once. Several
-# machines may share DIR where their roots differ.
+# --hours begins no root after H hours, says which groups are whole, and ends with 0. JOBS is how many walks go on at once. --sum says
+# `complete` only where all groups are whole and no table is left. It adds, and proves nothing: what is proved holds of each walk by
+# itself.
 set -e
 export LC_ALL=C
-usage='contrib/six.sh DIR SHARE [--seed S | --from K] [OPTIONS OF bb walk..]
-contrib/six.sh --sum DIR
-contrib/six.sh --again DIR COUNT [--seed S] [OPTIONS OF bb walk..]'
+script=$0
+top=$(cd "$(dirname "$0")/.." && pwd)
+groups=242
 
-# The children of each table that halts, with their weights: the empty table weighs one, and the children of a table share what it
-# weighs evenly (Knuth 1975). A child has an entry more, where the table halts: it names its states in the order in which they
-# come, and the very first entry goes to the right. The lines are weights with the records of tables.
+help() {
+    sed -n '2,/^set -e/ { /^#/ s/^# \{0,1\}//p }' "$script"
+}
+
+fail() {
+    echo "contrib/six.sh: $1" >&2
+    exit 1
+}
+
+# The children of each table that halts: it names its states in the order in which they come, and the very first entry goes to the
+# right.
 children='
 function halting_pair(    tape, at, symbol, cell) {
     at = 0
@@ -40,141 +54,242 @@ function halting_pair(    tape, at, symbol, cell) {
     }
 }
 BEGIN { states = "ABCDEF" }
-$3 == "H" {
-    split($2, entries, "_")
+$2 == "H" {
+    split($1, entries, "_")
     used = 1
-    for (i = 1; i <= 6; i++) if (index($2, substr(states, i, 1))) used = i
+    for (i = 1; i <= 6; i++) if (index($1, substr(states, i, 1))) used = i
     targets = used < 6 ? used + 1 : 6
     symbol = halting_pair()
     place = 7 * (state - 1) + 3 * symbol
-    count = split($2 ~ /[01]/ ? "0L 1L 0R 1R" : "0R 1R", ways, " ")
+    count = split($1 ~ /[01]/ ? "0L 1L 0R 1R" : "0R 1R", ways, " ")
     for (i = 1; i <= count; i++) for (j = 1; j <= targets; j++)
-        printf "%.9e %s%s%s%s\n", $1 / count / targets, substr($2, 1, place), ways[i], substr(states, j, 1), substr($2, place + 4)
+        print substr($1, 1, place) ways[i] substr(states, j, 1) substr($1, place + 4)
 }'
 
-# So many of the roots on standard input: each root gets a number of a sequence that the seed begins (Park and Miller 1988), and
-# the roots of the least numbers are taken.
-drawn() {
-    awk -v seed="$seed" '
-        BEGIN { x = seed % 2147483646 + 1; for (i = 0; i < 10; i++) x = 16807 * x % 2147483647 }
-        { x = 16807 * x % 2147483647; printf "%d %s\n", x, $1 }' | sort -n | head -n "$1" | cut -d ' ' -f 2
+# The records of the trunk, level by level.
+trunk() {
+    echo "------_------_------_------_------_------" > "$place/tables"
+    for filled in 0 1 2 3 4 5; do
+        "$bb" decide --hard --input "$place/tables" | tee "$place/records"
+        awk "$children" "$place/records" > "$place/tables"
+    done
 }
 
-# What the walked roots come to. The files follow one another, each with a report that begins with its root.
-sum='
-FILENAME == ARGV[1] { weights[$2] = $1; every += $1; roots++; next }
-$1 == "seconds" { seconds += $2 + $3; timed++; next }
-$1 == "kilobytes" { if ($2 > memory) memory = $2; next }
-$1 == "root" { walked++; root = $2; weight += weights[root]; next }
-$1 == "nodes" { tables += $2; squares += $2 * $2; if ($2 > largest) largest = $2; next }
-$1 == "halting" { halting += $2; next }
-$1 == "holdouts" { left += $2; next }
-$1 == "best" { steps = $2 + 0; if (steps > best) { best = steps; champions = "" }; next }
-$1 == "ones" { score = $2 + 0; if (score > ones) { ones = score; scored = "" }; next }
-$1 == "champion" { if (steps == best) champions = champions " " $2; next }
-$1 == "ones_champion" { if (score == ones) scored = scored " " $2; next }
-$1 == "holdout" { holdouts = holdouts $2 "\n"; next }
-/^[01-]/ { kinds[$2]++; saved++; bytes += length($0) + 1 }
+# The roots, from the records of the trunk: the children of those with five filled entries.
+roots() {
+    xz -dc "$folder/trunk.xz" | awk '{ table = $1; if (gsub(/---/, "", table) == 7) print }' | awk "$children" | sort
+}
+
+said() {
+    sed -n "s/^$1 //p" "$folder/about"
+}
+
+# Puts the program of DIR into place/bb, and sees that it is that one.
+program() {
+    bb=$place/bb
+    if [ -n "$BB" ]; then
+        cp "$BB" "$bb"
+    else
+        git -C "$top" show "$(said commit):dist/bb-linux-x86_64" > "$bb" || fail "git doesn't have the program of $folder/about"
+    fi
+    chmod +x "$bb"
+    [ "$(sha256sum < "$bb" | cut -d ' ' -f 1)" = "$(said program)" ] || fail "another program than that of $folder/about"
+}
+
+# A root, by the program with its options; what was walked of it before stays. Ends with 255 where xargs is to begin no more.
+# Arguments: the program, the folder of the group, the second after which no root begins (0 for none), the root, the options.
+walk='
+    bb=$1 begun=$2 last=$3 root=$4
+    shift 4
+    [ ! -e "$begun/$root" ] || exit 0
+    [ "$last" = 0 ] || [ "$(date +%s)" -lt "$last" ] || exit 255
+    "$bb" walk 6 --root "$root" "$@" > "$begun/$root.part" || [ $? -eq 1 ] || { echo "$root: no report" >&2; exit 255; }
+    mv "$begun/$root.part" "$begun/$root"'
+
+# The text of a group, of the reports of its roots, which come one after another.
+group='
+$1 == "root" { roots++ }
+{ value[$1] = $2 }
+$1 == "ones" { line[roots] = value["nodes"] " " value["halting"] " " value["never"] " " value["holdouts"] " " value["best"] " " value["ones"] }
+$1 == "best" { steps[roots] = $2 == "none" ? -1 : $2 + 0; if (steps[roots] > best) best = steps[roots] }
+$1 == "ones" { score[roots] = $2 == "none" ? -1 : $2 + 0; if (score[roots] > ones) ones = score[roots] }
+$1 == "champion" { champions[roots] = champions[roots] $0 "\n" }
+$1 == "ones_champion" { scored[roots] = scored[roots] $0 "\n" }
+$1 == "holdout" { left[roots] = left[roots] $0 "\n" }
 END {
-    if (!walked) { print "no root is walked"; exit 1 }
-    mean = tables / walked
-    off = walked > 1 ? sqrt((squares - tables * mean) / (walked - 1) / walked) : 0
-    printf "roots %d of %d, the largest tree %d tables\n", walked, roots, largest
-    printf "share %.4f%% of the roots, %.4f%% by weight\n", 100 * walked / roots, 100 * weight / every
-    printf "tables %.0f, by which the tree has %.3fe10, give or take %.3fe10\n", tables, mean * roots / 1e10, off * roots / 1e10
-    printf "halting %.0f of a million, left %.3f: %d tables\n", 1e6 * halting / tables, 1e6 * left / tables, left
-    if (timed) printf "seconds %.0f of processor time, %.2f microseconds a table; the largest walk %d kilobytes\n", \
-        seconds, 1e6 * seconds / tables, memory
-    printf "saved %d records, %.1f of a million, %.4f bytes a table\n", saved, 1e6 * saved / tables, bytes / tables
-    count = split("H C T B N F A W R P", letters, " ")
-    for (i = 1; i <= count; i++) if (kinds[letters[i]]) \
-        printf "saved %s %d, %.2f of a million\n", letters[i], kinds[letters[i]], 1e6 * kinds[letters[i]] / tables
-    printf "best %.0f:%s\nones %.0f:%s\n", best, champions, ones, scored
-    fflush()
-    if (holdouts != "") { printf "%s", holdouts | "sort"; close("sort") }
+    for (i = 1; i <= roots; i++) {
+        print line[i]
+        printf "%s", left[i]
+        if (steps[i] == best) printf "%s", champions[i]
+        if (score[i] == ones) printf "%s", scored[i]
+    }
 }'
 
-if [ "$1" = --sum ]; then
-    folder=${2:?"$usage"}
-    find "$folder/walked" -name '*.xz' | sort | xargs xz -dc | awk "$sum" "$folder/roots" -
-    exit
-fi
+# Walks the roots of group $1 into the folder $2, until second $3 (0 for no end). Succeeds where the group is whole.
+walked() {
+    mkdir -p "$2"
+    find "$2" -name '*.part' -exec rm {} +
+    tail -n "+$((1000 * $1 + 1))" "$place/roots" | head -n 1000 > "$place/group"
+    # In a session of its own, so that all of it can be ended.
+    # shellcheck disable=SC2046
+    setsid xargs -P "$jobs" -I {} sh -c "$walk" walk "$bb" "$2" "$3" {} $(said options) < "$place/group" 2> "$place/said" &
+    walking=$!
+    wait "$walking" || :
+    walking=
+    grep -v 'exited with status 255' "$place/said" >&2 || :
+    [ "$(find "$2" -type f ! -name '*.part' | wc -l)" = "$(wc -l < "$place/group")" ]
+}
 
-again=
-[ "$1" != --again ] || { again=yes; shift; }
-folder=${1:?"$usage"}
-share=${2:?"$usage"}
-shift 2
-seed=1 from=
-case $1 in
-    --seed) seed=${2:?"$usage"}; shift 2 ;;
-    --from) from=${2:?"$usage"}; shift 2 ;;
-esac
-[ $# -gt 0 ] || set -- --hard
-# The script bb sums up its sources each time: it is asked once which program it runs.
-bb=${BB:-$("$(dirname "$0")/../bb" --where)}
-jobs=${JOBS:-$(getconf _NPROCESSORS_ONLN)}
+# The text of a group that is whole.
+text() {
+    (cd "$1" && xargs cat) < "$place/group" | awk "$group"
+}
 
-if [ -n "$again" ]; then
-    place=$(mktemp -d)
-    trap 'rm -rf "$place"' EXIT
-    find "$folder/walked" -name '*.xz' -exec basename -s .xz {} + | sort | drawn "$share" > "$place/roots"
-    echo "$(wc -l < "$place/roots") roots are walked again, $jobs at once" >&2
-    xargs -P "$jobs" -I {} sh -c '
-        root=$1 folder=$2 place=$3; shift 3
-        xz -dc "$folder/walked/$root.xz" > "$place/$root"
-        grep "^[01]" "$place/$root" > "$place/$root.saved" || :
-        grep "^[a-z]" "$place/$root" | grep -v -e "^seconds " -e "^kilobytes " > "$place/$root.report"
-        "$0" walk 6 --root "$root" --known "$place/$root.saved" "$@" > "$place/$root.again" || [ $? -eq 1 ] || exit 255
-        cmp "$place/$root.report" "$place/$root.again" || exit 255
-        rm "$place/$root" "$place/$root".*' "$bb" {} "$folder" "$place" "$@" < "$place/roots"
-    echo "all reports are the same"
-    exit
-fi
+# Puts the processor seconds of all that was begun so far into `spent`. A subshell would have times of its own.
+spend() {
+    times > "$place/times"
+    spent=$(awk 'NR == 2 { gsub(/[ms]/, " "); printf "%.0f", $1 * 60 + $2 + $3 * 60 + $4 }' "$place/times")
+}
 
-mkdir -p "$folder/walked" "$folder/begun"
-if [ ! -e "$folder/roots" ]; then
-    echo "1 ------_------_------_------_------_------" > "$folder/begun/tables"
-    for filled in 1 2 3 4 5 6; do
-        cut -d ' ' -f 2 "$folder/begun/tables" | "$bb" decide --hard > "$folder/begun/records"
-        cut -d ' ' -f 1 "$folder/begun/tables" | paste -d ' ' - "$folder/begun/records" | awk "$children" > "$folder/begun/next"
-        mv "$folder/begun/next" "$folder/begun/tables"
+begin() {
+    [ $# -gt 1 ] || fail "a commit and the options of bb walk are wanted"
+    [ ! -e "$folder/about" ] || fail "$folder is begun already"
+    mkdir -p "$folder"
+    bb=$place/bb
+    git -C "$top" show "$1:dist/bb-linux-x86_64" > "$bb"
+    chmod +x "$bb"
+    trunk | xz > "$folder/trunk.xz"
+    {
+        echo "commit $(git -C "$top" rev-parse "$1")"
+        echo "program $(sha256sum < "$bb" | cut -d ' ' -f 1)"
+        echo "version $("$bb" --version | head -n 1)"
+        shift
+        echo "options $*"
+        echo "roots $(roots | sha256sum | cut -d ' ' -f 1)"
+        echo "group G is the roots 1000 G + 1 to 1000 G + 1000 by name, G from 0 to $((groups - 1))"
+    } > "$folder/about"
+    : > "$folder/sums"
+}
+
+walk_groups() {
+    from=${1%-*} to=${1#*-} last=0
+    [ "$from" -le "$to" ] && [ "$to" -lt "$groups" ] || fail "groups are 0 to $((groups - 1))"
+    [ -z "$2" ] || last=$(awk -v now="$(date +%s)" -v hours="$2" 'BEGIN { printf "%d", now + 3600 * hours }')
+    list
+    mkdir -p "$folder/begun"
+    exec 9> "$folder/begun/lock"
+    flock -n 9 || fail "somebody walks in $folder already"
+    spend
+    for number in $(seq "$from" "$to"); do
+        name=$(printf %03d "$number")
+        [ ! -e "$folder/$name.xz" ] || continue
+        [ "$last" = 0 ] || [ "$(date +%s)" -lt "$last" ] || break
+        before=0
+        [ ! -e "$folder/begun/$name.seconds" ] || before=$(cat "$folder/begun/$name.seconds")
+        walked "$number" "$folder/begun/$name" "$last" && whole=yes || whole=
+        earlier=$spent
+        spend
+        took=$((before + spent - earlier))
+        echo "$took" > "$folder/begun/$name.seconds"
+        [ -n "$whole" ] || continue
+        keep "$number" "$took"
     done
-    sort -k 2 "$folder/begun/tables" > "$folder/begun/roots"
-    rm "$folder/begun/tables" "$folder/begun/records"
-    mv "$folder/begun/roots" "$folder/roots"
-fi
-every=$(wc -l < "$folder/roots")
-case $share in
-    */*) count=$(((every * ${share%/*} + ${share#*/} - 1) / ${share#*/})) ;;
-    *) count=$share ;;
+    rm "$folder/begun/lock"
+    rmdir "$folder/begun" 2> /dev/null || :
+    echo "whole: $(find "$folder" -maxdepth 1 -name '[0-9][0-9][0-9].xz' | wc -l) of $groups groups" >&2
+}
+
+# Keeps group $1, which took so many processor seconds.
+keep() {
+    text "$folder/begun/$name" > "$place/text"
+    xz -c "$place/text" > "$folder/$name.xz.new"
+    line=$(awk -v group="$1" -v sum="$(sha256sum < "$place/text" | cut -d ' ' -f 1)" -v took="$2" '
+        /^[0-9]/ { tables += $1; left += $4 }
+        END { printf "%d %s %.0f %d %d", group, sum, tables, left, took }' "$place/text")
+    { grep -v "^$1 " "$folder/sums" || :; echo "$line"; } | sort -n > "$folder/sums.new"
+    mv "$folder/sums.new" "$folder/sums"
+    mv "$folder/$name.xz.new" "$folder/$name.xz"
+    rm -rf "$folder/begun/$name" "$folder/begun/$name.seconds"
+    echo "group $line" >&2
+}
+
+again() {
+    list
+    name=$(printf %03d "$1")
+    [ -e "$folder/$name.xz" ] || fail "group $1 isn't walked yet"
+    walked "$1" "$place/again" 0 || fail "group $1 isn't whole"
+    text "$place/again" > "$place/text"
+    xz -dc "$folder/$name.xz" | cmp - "$place/text" || fail "group $1 comes out otherwise"
+    echo "group $1 is the same, byte for byte"
+}
+
+# The list of roots, which is that of `about`.
+list() {
+    program
+    roots > "$place/roots"
+    [ "$(sha256sum < "$place/roots" | cut -d ' ' -f 1)" = "$(said roots)" ] || fail "other roots than those of $folder/about"
+}
+
+# The kept groups one after another, each behind its number, as far as its sum is the one in `sums`.
+kept() {
+    for file in "$folder"/[0-9][0-9][0-9].xz; do
+        [ -e "$file" ] || continue
+        number=$(basename "$file" .xz | sed 's/^0*\(.\)/\1/')
+        xz -dc "$file" > "$place/text"
+        [ "$(sha256sum < "$place/text" | cut -d ' ' -f 1)" = "$(sed -n "s/^$number \([^ ]*\) .*/\1/p" "$folder/sums")" ] ||
+            fail "group $number isn't the one in $folder/sums"
+        echo "group $number"
+        cat "$place/text"
+    done
+}
+
+# The report of the trunk's records and of all groups; the trunk's tables that halt are nodes of the tree too.
+sum='
+$1 == "group" { groups++; number = $2; expected += number < 241 ? 1000 : 368; next }
+/^[0-9]/ && NF == 6 { roots++; nodes += $1; halting += $2; never += $3; holdouts += $4; steps = $5 == "none" ? -1 : $5 + 0
+    score = $6 == "none" ? -1 : $6 + 0
+    if (steps > best) { best = steps; champions = "" }
+    if (score > ones) { ones = score; scored = "" }
+    next }
+$1 == "champion" { if (steps == best) champions = champions $0 "\n"; next }
+$1 == "ones_champion" { if (score == ones) scored = scored $0 "\n"; next }
+$1 == "holdout" { left = left $0 "\n"; next }
+$2 == "H" { nodes++; halting++; if ($3 + 0 > best) { best = $3 + 0; champions = "" } if ($4 + 0 > ones) { ones = $4 + 0; scored = "" }
+    if ($3 + 0 == best) champions = champions "champion " $1 "\n"
+    if ($4 + 0 == ones) scored = scored "ones_champion " $1 "\n"
+    next }
+$2 == "U" { nodes++; holdouts++; left = left "holdout " $1 "\n"; next }
+$2 != "" { nodes++; never++ }
+function sorted(lines) { if (lines != "") { printf "%s", lines | "sort"; close("sort") } }
+END {
+    if (roots != expected) { print "a group has another number of roots" > "/dev/stderr"; exit 1 }
+    whole = groups == 242 && roots == 241368
+    printf "whole: %d of 242 groups\n", groups
+    open = 241368 - roots
+    printf "root ------_------_------_------_------_------\nstatus %s\n", open ? "working" : holdouts ? "holdouts" : "complete"
+    printf "nodes %.0f\nhalting %.0f\nnever %.0f\nholdouts %d\nopen %d\nbest %.0f\n", nodes + open, halting, never, holdouts, open, best
+    fflush(); sorted(champions)
+    printf "ones %.0f\n", ones
+    fflush(); sorted(scored)
+    exit !whole
+}'
+
+case $1 in
+    --help | -h | "") help; exit ;;
 esac
-time=
-[ ! -x /usr/bin/time ] || time=yes
-if [ -n "$from" ]; then
-    tail -n "+$from" "$folder/roots" | head -n "$count" | cut -d ' ' -f 2
-else
-    cut -d ' ' -f 2 "$folder/roots" | drawn "$count"
-fi > "$folder/begun/roots.$$"
-echo "$(wc -l < "$folder/begun/roots.$$") of $every roots, $jobs walks at once" >&2
-while sleep "${EVERY:-10}" < /dev/null > /dev/null 2>&1 && kill -0 $$ 2> /dev/null; do
-    echo "$(find "$folder/walked" -name '*.xz' | wc -l) roots of $folder are walked" >&2
-done &
-teller=$!
-trap 'kill $teller 2> /dev/null || :' EXIT
-# A walk that leaves holdouts ends with 1; what ends with more is named, and stops all.
-xargs -P "$jobs" -I {} sh -c '
-    root=$1 folder=$2 time=$3 status=0; shift 3
-    walked=$folder/walked/$root.xz begun=$folder/begun/$root
-    [ ! -e "$walked" ] || exit 0
-    rm -f "$begun".*
-    ${time:+/usr/bin/time -q -o "$begun.time" -f "seconds %U %S
-kilobytes %M"} "$0" walk 6 --root "$root" --save "$begun.saved" "$@" > "$begun.report" || status=$?
-    [ "$status" -le 1 ] || { echo "$root: status $status" >&2; exit 255; }
-    [ -s "$begun.report" ] || exit 255
-    for part in time report saved; do [ ! -e "$begun.$part" ] || cat "$begun.$part"; done | xz > "$begun.xz"
-    mv "$begun.xz" "$walked"
-    rm -f "$begun".*' "$bb" {} "$folder" "$time" "$@" < "$folder/begun/roots.$$" || status=$?
-rm -f "$folder/begun/roots.$$"
-echo "contrib/six.sh --sum $folder says what has been walked so far" >&2
-exit "${status:-0}"
+folder=$1
+jobs=${JOBS:-$(getconf _NPROCESSORS_ONLN)}
+walking=
+place=$(mktemp -d)
+trap '[ -z "$walking" ] || kill -- "-$walking" 2> /dev/null || :; rm -rf "$place"' EXIT
+trap 'exit 130' INT TERM HUP
+[ "$2" = --begin ] || [ -e "$folder/about" ] || fail "there is no $folder/about; --begin makes it"
+case $2 in
+    --begin) shift 2; begin "$@" ;;
+    --groups)
+        case $4 in --hours | "") walk_groups "$3" "$5" ;; *) fail "--hours H may follow" ;; esac ;;
+    --again) again "${3:?a group}" ;;
+    --sum) kept > "$place/kept"; { xz -dc "$folder/trunk.xz"; cat "$place/kept"; } | awk "$sum" ;;
+    --holdouts) kept > "$place/kept"; sed -n 's/^holdout //p' "$place/kept" | sort ;;
+    *) help >&2; exit 2 ;;
+esac

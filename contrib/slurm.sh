@@ -8,6 +8,7 @@
 # folder of its own; the other scripts are then those of the folder that CONTRIB names (contrib if it isn't set). A part that
 # fails is named with its exit status, and the others go on. Submitted again, it goes on with what is left, and so does a task that
 # is killed and queued again.
+case $1 in --help | -h) sed -n '2,$ { /^#/!q; /^#SBATCH/d; s/^# \{0,1\}//p; }' "$0"; exit ;; esac
 compress=
 [ "$1" != --xz ] || { compress=--xz; shift; }
 folder=${1:?"sbatch --array=1-N contrib/slurm.sh [--xz] DIR [OPTIONS..]"}

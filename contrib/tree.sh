@@ -9,6 +9,7 @@
 # Before it begins it says how much disk the tree takes and how much there is, and stops where that isn't enough; ROOM=any begins
 # all the same. contrib/parallel.sh then says how far it is, and names each part that fails: the others go on, and the script ends
 # with 1. The report comes on standard output, and the exit status is that of bb join.
+case $1 in --help | -h) sed -n '2,$ { /^#/!q; /^#SBATCH/d; s/^# \{0,1\}//p; }' "$0"; exit ;; esac
 set -e
 usage='contrib/tree.sh N DIR [OPTIONS..], with N from 1 to 7'
 states=${1:?"$usage"}

@@ -9,6 +9,7 @@
 #
 # It adds, and proves nothing: what is proved holds of each report by itself. bb walk N, in one process, proves the whole, and
 # so do contrib/tree.sh and bb join, which keep all records.
+case $1 in --help | -h) sed -n '2,$ { /^#/!q; /^#SBATCH/d; s/^# \{0,1\}//p; }' "$0"; exit ;; esac
 set -e
 states=${1:?"contrib/walk.sh N [K] [OPTIONS..]"}
 shift
@@ -22,8 +23,9 @@ fi
 bb=${BB:-$("$(dirname "$0")/../bb" --where)}
 jobs=${JOBS:-$(getconf _NPROCESSORS_ONLN)}
 folder=$(mktemp -d)
-teller=
-trap 'kill $teller 2> /dev/null || :; rm -rf "$folder"' EXIT
+teller= walking=
+trap 'kill $teller 2> /dev/null || :; [ -z "$walking" ] || kill -- "-$walking" 2> /dev/null || :; rm -rf "$folder"' EXIT
+trap 'exit 130' INT TERM HUP
 mkdir "$folder/reports"
 "$bb" split "$states" "$folder/tree" --filled "$filled" "$@" >&2
 "$bb" report "$folder/tree/trunk.ledger" > "$folder/trunk" || [ $? -eq 1 ]
@@ -36,10 +38,14 @@ while sleep "${EVERY:-10}" < /dev/null > /dev/null 2>&1 && kill -0 $$ 2> /dev/nu
     echo "$(find "$folder/reports" -size +0 -name '*_*' | wc -l) of $all walks done" >&2
 done &
 teller=$!
-xargs -P "$jobs" -I {} sh -c 'reports=$1 states=$2 root=$3 status=0; shift 3
-    "$0" walk "$states" --root "$root" "$@" > "$reports/$root" || status=$?
+# In a session of its own, so that all of it can be ended.
+setsid xargs -P "$jobs" -I {} sh -c 'reports=$1 states=$2 root=$3 status=0; shift 3
+    "$0" walk "$states" --root="$root" "$@" > "$reports/$root" || status=$?
     [ "$status" -le 1 ] || { echo "$root: status $status" >&2; exit 255; }' \
-    "$bb" "$folder/reports" "$states" {} "$@" < "$folder/roots"
+    "$bb" "$folder/reports" "$states" {} "$@" < "$folder/roots" &
+walking=$!
+wait "$walking"
+walking=
 # The trunk's open tables are the roots, which are counted with their walks.
 { cat "$folder/trunk"; xargs -I {} cat "$folder/reports/{}" < "$folder/roots"; } | LC_ALL=C awk '
     $1 == "root" { files++; if (files == 1) root = $2 }

@@ -132,11 +132,9 @@ def over_what_is_read():
     # the name of the new file beside OUT may be a link to what is read: it is removed, and never written to
     for name in PARTS:
         os.link(room.at(name), room.at("out.new"))
-        room.run(["join", "parts", "--ledger", "out"], 0, REPORT, after={"out": WHOLE}, gone=["out.new"])
+        room.run(["join", "parts", "--ledger", "out", "--replace"], 0, REPORT, after={"out": WHOLE}, gone=["out.new"])
         os.symlink(name, room.at("out.new"))
-        room.run(["join", "parts", "--ledger", "out"], 0, REPORT, after={"out": WHOLE}, gone=["out.new"])
-
-
+        room.run(["join", "parts", "--ledger", "out", "--replace"], 0, REPORT, after={"out": WHOLE}, gone=["out.new"])
     # a part that is a link to that name would be lost
     room = Room({**PARTS, "out.new": PARTS["parts/0RA---.ledger"]})
     os.remove(room.at("parts/0RA---.ledger"))
@@ -149,17 +147,72 @@ def beside_out():
     room = Room({"a": TRUNK, "a.new": HEADER + ROOT + LEFT, "b": HEADER + ROOT + RIGHT})
     merged = b"merged 2 open 1 holdouts 0\n"
     for name in ("a.new", "./a.new", room.at("a.new")):
-        room.run(["merge", "a", name, "a"], 0, merged, after={"a": HEADER + ROOT + LEFT})
-        room.run(["merge", name, "a", "a"], 0, merged)
-        room.run(["carry", name, "a"], 0, b"carried 2 halting 1\n")
-        room.run(["mend", name, "a"], 0, b"mended 2 dropped 0\n")
+        room.run(["merge", "a", name, "a", "--replace"], 0, merged, after={"a": HEADER + ROOT + LEFT})
+        room.run(["merge", name, "a", "a", "--replace"], 0, merged)
+        room.run(["carry", name, "a", "--replace"], 0, b"carried 2 halting 1\n")
+        room.run(["mend", name, "a", "--replace"], 0, b"mended 2 dropped 0\n")
     with open(room.at("a.new"), "rb") as file:
-        room.run(["mend", "-", "a"], 0, b"mended 2 dropped 0\n", stdin=file)
+        room.run(["mend", "-", "a", "--replace"], 0, b"mended 2 dropped 0\n", stdin=file)
     os.link(room.at("b"), room.at("out.new"))
     room.run(["merge", "a", "b", "out"], 0, b"merged 3 open 0 holdouts 0\n", after={"out": WHOLE})
     if not os.path.samefile(room.at("b"), room.at("out.new")):
         sys.exit("losses: merge: out.new is gone, which is a second name of B")
-    room.run(["merge", "a", "b", "b"], 0, b"merged 3 open 0 holdouts 0\n", after={"b": WHOLE})
+    room.run(["merge", "a", "b", "b", "--replace"], 0, b"merged 3 open 0 holdouts 0\n", after={"b": WHOLE})
+
+
+def unless_replaced():
+    """An OUT that is there already stays as it is, and nothing is made beside it, unless it is to be replaced; what is wrong with
+    what is read is said first."""
+    other = b"bb-ledger 2 ------_------\n"
+    room = Room({"a": TRUNK, "b": WHOLE, "small": HEADER, "other": other, "notes": b"what stood there", "empty": b"", **PARTS})
+    os.symlink("small", room.at("link"))
+    os.symlink("nowhere", room.at("dangling"))
+    os.link(room.at("b"), room.at("second"))
+    commands = (
+        (["merge", "a", "b"], b"merged 3 open 0 holdouts 0\n"),
+        (["carry", "b"], b"carried 3 halting 1\n"),
+        (["mend", "b"], b"mended 3 dropped 0\n"),
+        (["join", "parts", "--ledger"], REPORT),
+    )
+    for words, said in commands:
+        for out in ("a", "b", "./b", "second", "small", "other", "notes", "link", "dangling"):
+            kept = f"refused 604\n{out}: it is there already, and is replaced only with --replace\n".encode()
+            room.run([*words, out], 4, faults=kept)
+        ran = subprocess.run([PROGRAM, *words, "parts"], capture_output=True, cwd=room.folder, check=False)
+        if ran.returncode != 4 or not ran.stderr.startswith(b"refused 604\nparts: "):
+            sys.exit(f"losses: {words} over a folder: {ran!r}")
+        room.run([*words, "empty"], 0, said, after={"empty": WHOLE})
+        room.write("empty", b"")
+        room.run([*words, "notes", "--replace"], 0, said, after={"notes": WHOLE})
+        room.run([*words, "link", "--replace"], 0, said, after={"small": WHOLE})
+        room.write("notes", b"what stood there")
+        room.write("small", HEADER)
+    room.run(["merge", "a", "absent", "b"], 4, faults=b"refused 605\n")
+    roots = b"refused 405\nother: its root is ------_------, and that of a is ------\n"
+    room.run(["merge", "a", "other", "b"], 1, faults=roots)
+    room.run(["walk", "1", "--save", "b"], 4, faults=b"refused 604\nb: it is a ledger: records are saved to another file\n")
+    table = b"1RB1LB_1LA---"
+    room.run(["draw", "--out", "pictures", table.decode()], 0, table + b" drawn\n", after={"pictures/1RB1LB_1LA---.svg": picture(room)})
+    drawn = b"refused 605\npictures/1RB1LB_1LA---.svg: it is there already, and is replaced only with --replace\n"
+    room.run(["draw", "--out", "pictures", table.decode()], 4, faults=drawn)
+    room.run(["draw", "--out", "pictures", "--replace", table.decode()], 0, table + b" drawn\n")
+
+
+def picture(room):
+    """The picture of the champion of two states, as it is printed."""
+    return subprocess.run([PROGRAM, "draw", "1RB1LB_1LA---"], capture_output=True, cwd=room.folder, check=True).stdout
+
+
+def half_lines():
+    """Records are saved behind a last line that isn't whole, on lines of their own."""
+    known, table = b"1RB1RC_1LB1LA_---0RB T 12 27 R", "------_------"
+    for held in (known, b"1RB1RC_1LB1LA_---0RB T 12"):
+        room = Room({"saved": held})
+        Room.tried += 1
+        subprocess.run([PROGRAM, "walk", "2", "--save", "saved", "--dear", "0", "--far", "2", f"--root={table}"], capture_output=True, cwd=room.folder, check=False)
+        lines = room.held()["saved"].split(b"\n")
+        if lines[0] != held or len(lines) < 3 or lines[-1] != b"":
+            sys.exit(f"losses: walk --save behind {held!r}: {lines[:2]!r}")
 
 
 def through_links():
@@ -171,9 +224,9 @@ def through_links():
     os.symlink("round", room.at("round"))
     os.link(room.at("to/file"), room.at("second"))
     for words, said in ((["carry", "a"], b"carried 3 halting 1\n"), (["mend", "a"], b"mended 3 dropped 0\n"), (["merge", "a", "a"], b"merged 3 open 0 holdouts 0\n")):
-        room.run([*words, "twice"], 0, said, after={"to/file": WHOLE})
+        room.run([*words, "twice", "--replace"], 0, said, after={"to/file": WHOLE})
         room.run([*words, "round"], 4, faults=b"refused 604\n")
-    room.run(["carry", "a", "dangling"], 0, b"carried 3 halting 1\n", after={"nowhere": WHOLE})
+    room.run(["carry", "a", "dangling", "--replace"], 0, b"carried 3 halting 1\n", after={"nowhere": WHOLE})
     if room.held()["second"] != b"what stood there":
         sys.exit("losses: a second name of OUT's file was written to")
 
@@ -195,10 +248,10 @@ def pipes():
         room.run(["report", name], 0, REPORT, given=WHOLE)
     room.run(["report", "-"], 0, REPORT, given=WHOLE)
     room.run(["carry", room.fed("fifo", WHOLE), "out"], 0, b"carried 3 halting 1\n", after={"out": WHOLE})
-    room.run(["mend", room.fed("fifo", SPOILT), "out"], 1, b"mended 2 dropped 1\n", after={"out": HEADER + ROOT + RIGHT})
-    room.run(["mend", "/dev/stdin", "out"], 0, b"mended 3 dropped 0\n", given=WHOLE, after={"out": WHOLE})
-    room.run(["merge", room.fed("fifo", TRUNK), "/dev/stdin", "out"], 0, b"merged 3 open 0 holdouts 0\n", given=WHOLE)
-    room.run(["merge", "a", room.fed("fifo", WHOLE), "a"], 0, b"merged 3 open 0 holdouts 0\n")
+    room.run(["mend", room.fed("fifo", SPOILT), "out", "--replace"], 1, b"mended 2 dropped 1\n", after={"out": HEADER + ROOT + RIGHT})
+    room.run(["mend", "/dev/stdin", "out", "--replace"], 0, b"mended 3 dropped 0\n", given=WHOLE, after={"out": WHOLE})
+    room.run(["merge", room.fed("fifo", TRUNK), "/dev/stdin", "out", "--replace"], 0, b"merged 3 open 0 holdouts 0\n", given=WHOLE)
+    room.run(["merge", "a", room.fed("fifo", WHOLE), "a", "--replace"], 0, b"merged 3 open 0 holdouts 0\n")
     os.rename(room.at("parts/0RA---.ledger"), room.at("part"))
     room.fed("parts/0RA---.ledger", PARTS["parts/0RA---.ledger"])
     room.run(["join", "parts"], 0, REPORT)
@@ -224,8 +277,7 @@ def cuts():
         (["settle", "a"], b"", b"settled 2 holdouts 0\n", TRUNK + LEFT + RIGHT),
     ):
         room = Room({"a": SPOILT})
-        told = cut_words("a") if words[0] == "settle" else b""
-        room.run(words, 0, answers, told, given=given, after={"a": after, "a.cut": CUT})
+        room.run(words, 0, answers, cut_words("a"), given=given, after={"a": after, "a.cut": CUT})
         room.write("a", SPOILT)
         room.run([*words, "--why"], 0, answers, cut_words("a"), given=given, after={"a": after, "a.cut": CUT + CUT})
         room.write("a", WHOLE[:-1])
@@ -237,7 +289,7 @@ def cuts():
         room.run(["settle", "a"], 4, faults=b"refused 604\n")
     working = REPORT.replace(b"complete", b"working").replace(b"never 2", b"never 0").replace(b"open 0", b"open 2")
     room = Room({"a": SPOILT})
-    room.run(["retry", "a"], 1, working, after={"a": TRUNK, "a.cut": CUT})
+    room.run(["retry", "a"], 1, working, cut_words("a"), after={"a": TRUNK, "a.cut": CUT})
     room = Room({"parts/trunk.ledger": SPOILT, "parts/1RA---.ledger": PARTS["parts/1RA---.ledger"]})
     room.run(["split", "1", "parts", "--filled", "1"], 0, b"trunk 1 parts 2\n", cut_words("parts/trunk.ledger"), after={"parts/trunk.ledger": TRUNK, "parts/trunk.ledger.cut": CUT, "parts/0RA---.ledger": b"bb-ledger 2 0RA---\n"})
     # given again it leaves the parts as they are
@@ -263,7 +315,7 @@ def without_leave():
     for words in (["run", "1", "--ledger", "a"], ["loop", "1", "--ledger", "a"], ["coord", "1", "--ledger", "a"], ["settle", "a"], ["retry", "a"]):
         room.run(words, 4, faults=b"refused 604\n", given=b"REC " + LEFT, **as_nobody)
     for words in (["merge", "b", "b", "out"], ["carry", "b", "out"], ["mend", "a", "out"], ["mend", "a", "a"]):
-        room.run(words, 4, faults=b"refused 604\n", **as_nobody)
+        room.run([*words, "--replace"], 4, faults=b"refused 604\n", **as_nobody)
     os.chmod(room.folder, 0o755)
 
 
@@ -281,6 +333,31 @@ def told_at_terminal(room, words, before=()):
         pass
     os.close(reader)
     return ran, told.replace(b"\r\n", b"\n")
+
+
+def lines_of_their_own():
+    """On a terminal that shows both streams a report isn't glued to the line that tells how far the reading is."""
+    packed = os.path.join(TOP, "examples", "four-states.ledger.xz")
+    if not shutil.which("xz"):
+        print("losses: there is no xz, and no long reading was tried")
+        return
+    held = subprocess.run(["xz", "-dc", packed], capture_output=True, check=True).stdout
+    room = Room({"four": held})
+    Room.tried += 1
+    reader, writer = pty.openpty()
+    ran = subprocess.Popen([PROGRAM, "report", "four"], stdin=subprocess.DEVNULL, stdout=writer, stderr=writer, cwd=room.folder)
+    os.close(writer)
+    shown = b""
+    try:
+        while piece := os.read(reader, 4096):
+            shown += piece
+    except OSError:
+        pass
+    ran.wait()
+    report = subprocess.run([PROGRAM, "report", "four"], capture_output=True, cwd=room.folder, check=False).stdout
+    lines = re.compile(rb"\r\x1b\[\?7l[^\r\n]*\x1b\[\?7h\x1b\[K|\r\x1b\[K")
+    if not lines.search(shown) or lines.sub(b"", shown).replace(b"\r\n", b"\n") != report:
+        sys.exit(f"losses: report at a terminal: {shown!r}")
 
 
 def reasons():
@@ -435,7 +512,7 @@ def by_links():
 
 
 def main():
-    for play in (over_what_is_read, beside_out, through_links, devices, pipes, cuts, without_leave, reasons, without_network, places_to_listen, by_links):
+    for play in (over_what_is_read, beside_out, unless_replaced, half_lines, through_links, devices, pipes, cuts, without_leave, lines_of_their_own, reasons, without_network, places_to_listen, by_links):
         play()
     for folder in Room.folders:
         shutil.rmtree(folder, ignore_errors=True)

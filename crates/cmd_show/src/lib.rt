@@ -42,6 +42,7 @@ mod pixels;
 mod places;
 mod placing;
 mod png;
+mod printer;
 mod remainder;
 mod row;
 mod rows;

@@ -179,8 +179,12 @@ def meaning(code: int) -> str:
 
 
 def _given(text: Union[str, _Bytes]) -> bytes:
-    """The bytes of a text, which nobody changes while they are read."""
-    return text.encode("utf-8", "surrogateescape") if isinstance(text, str) else bytes(text)
+    """The bytes of a text, which nobody changes while they are read. A number is none, of whatever `bytes` would make of it."""
+    if isinstance(text, str):
+        return text.encode("utf-8", "surrogateescape")
+    if isinstance(text, (bytes, bytearray, memoryview)):
+        return bytes(text)
+    raise TypeError(f"text or bytes are wanted, not {type(text).__name__}")
 
 
 def check(text: Union[str, _Bytes]) -> Answer:
@@ -221,7 +225,8 @@ def report(ledger: Union[str, _Bytes, "os.PathLike[str]", BinaryIO]) -> Report:
     """Reports a ledger: every record of it is judged.
 
     A text or bytes are the ledger itself; a path, such as a `pathlib.Path`, names its file, and a file that is open for
-    bytes is read to its end. Of a file one piece is in memory at a time.
+    bytes is read to its end. Of a file one piece is in memory at a time. A text without a newline is no ledger, and raises
+    ValueError: it is taken for a file's name.
     """
     if isinstance(ledger, os.PathLike):
         with open(ledger, "rb") as file:
@@ -229,6 +234,8 @@ def report(ledger: Union[str, _Bytes, "os.PathLike[str]", BinaryIO]) -> Report:
     if hasattr(ledger, "read"):
         return _report_file(ledger)
     given = _given(ledger)
+    if isinstance(ledger, str) and given and b"\n" not in given:
+        raise ValueError("a ledger's text has lines: a file is named by a pathlib.Path")
     told = _Tree()
     _report(given, len(given), _byref(told))
     return _as_report(told)

@@ -1,5 +1,5 @@
 #!/bin/sh
-# Prints docs/SPEED.md's table of commands anew, each figure made by this run: bench/all.sh [quick]. What the scripts say
+# Prints rows for the table of docs/house/SPEED.md, each figure made by this run: bench/all.sh [quick]. What the scripts say
 # beside their rows goes to standard error. It needs Python 3.10 and Linux on x86-64, and rustc for the plain programs with
 # which bb is compared; where there is none, it says so, and those rows are left out. The whole takes some five minutes of
 # one processor, `quick`, with fewer records and one sample of five states, two. Not run here, since they make no row of

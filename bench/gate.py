@@ -4,7 +4,7 @@
 Looks twice a second at the checks that run below the command and adds up their processor time: proofs (a crate's own check and
 build), tests (the check of a crate with its tests), edits (the checks of wrong code, and those that they begin with). What else
 the command took, programs and tests as they run among it, is the rest of what the system counted. A check that ends within half a
-second of beginning is missed. Prints the table of docs/SPEED.md, and ends as the command does.
+second of beginning is missed. Prints the table of docs/house/SPEED.md, and ends as the command does.
 """
 import collections
 import os

@@ -1,5 +1,5 @@
 """What the scripts of this folder measure by: processor time, which other work on the computer lengthens less than the
-time on the clock; and the rows that they print, those of the table of commands in docs/SPEED.md."""
+time on the clock; and the rows that they print, those of the table of commands in docs/house/SPEED.md."""
 import itertools
 import lzma
 import os
@@ -64,6 +64,6 @@ def four_states():
 
 
 def row(what, ratio, rest):
-    """A row of docs/SPEED.md's table."""
+    """A row of docs/house/SPEED.md's table."""
     told = "" if ratio is None else f"{ratio:.2f}"
     print(f"| {what} | `bench/{os.path.basename(sys.argv[0])}` | {told} | {rest} |", flush=True)

@@ -44,7 +44,7 @@ fn go<W: Way>(records: &[Record], then: &str) {
 
 type Going = fn(&[Record], &str);
 
-/// The ways, and how docs/SPEED.md calls them. All but the first are measured against the second.
+/// The ways, and what they are called. All but the first are measured against the second.
 const WAYS: [(&str, Going, &str); 11] = [
     ("nothing", go::<Nothing>, ""),
     ("twice", go::<Ordered<false, false>>, "a map of open tables: two searches a child, tables compared by bytes"),

@@ -10,7 +10,7 @@
  *   from the definitions on; docs/PROOFS.md names the contracts.
  * - It reads the text and nothing else, writes OUT or the reader and nothing else, and asks the C library for memory that it
  *   gives back before it returns, or before the reader's end. Refused memory is an answer. It prints nothing, opens nothing, never ends the process, and returns.
- * - But for a reader, it keeps nothing from one call to the next, and it takes no lock. So threads may call side by side, on
+ * - Except for a reader, it keeps nothing from one call to the next, and it takes no lock. So threads may call side by side, on
  *   the same text too.
  *
  * What a caller owes, which nothing checks:

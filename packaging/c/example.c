@@ -10,7 +10,7 @@
 #include <stdlib.h>
 #include <string.h>
 
-/* Prints an answer as `bb check` does, but for the table, which stands as the record has it. */
+/* Prints an answer as `bb check` does, except for the table, which is as the record has it. */
 static int print(const char *line, const struct bb_answer *a) {
     int table = (int)strcspn(line, " ");
     switch (a->outcome) {

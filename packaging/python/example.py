@@ -1,7 +1,7 @@
 #!/usr/bin/env python3
 """Judges a file of records, a line each: example.py FILE. Prints each answer, and ends with 1 where one was refused.
 
-Each is printed as `bb check` does, but for the table, which stands as the record has it.
+Each is printed as `bb check` does, except for the table, which is as the record has it.
 """
 import sys
 from typing import BinaryIO

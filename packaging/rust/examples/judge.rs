@@ -1,6 +1,6 @@
 //! Judges a file of records, a line each: judge FILE [THREADS]. Prints each answer, and ends with 1 where one was refused.
 //!
-//! Each is printed as `bb check` does, but for the table, which stands as the record has it. With THREADS so many threads
+//! Each is printed as `bb check` does, except for the table, which is as the record has it. With THREADS so many threads
 //! judge the records side by side, each of them all of the file; then the answers of each have to be those of the first.
 
 use busybeaver::{check, Refusal, Shown, Verdict};

@@ -9,7 +9,7 @@
 //! ```
 //!
 //! What is proved of the calls behind this, and what a caller owes them, is said in `packaging/c/bb.h`. A `&[u8]` and a
-//! struct of one's own meet all of that but for the processor (x86-64-v2), the stack (64 kilobytes), and that no call comes
+//! struct of one's own meet all of that except for the processor (x86-64-v2), the stack (64 kilobytes), and that no call comes
 //! from a signal handler or from the forked child of a process with threads. Threads may call side by side.
 
 use std::ffi::{c_char, CStr};
@@ -97,7 +97,7 @@ pub enum Kind {
     Halting,
     /// `C`: two configurations are equal.
     Cycler,
-    /// `T`: two configurations are equal but for a shift.
+    /// `T`: two configurations are equal except for a shift.
     TranslatedCycler,
     /// `B`: no configuration halts after a number of steps.
     Backward,

@@ -108,9 +108,7 @@ pub trait Files {
         ensures tells { IsToldStill (tells_same self.old) (tells_same self.new) };
 
     /// Remembers that a command fails by the file at a path, and why.
-    fn remember(&self, path: &str, why: &'static str) {
-        let _ = (path, why);
-    }
+    fn remember(&self, _path: &str, _why: &'static str) {}
 
     /// Whether standard error is shown on a terminal.
     fn tells_terminal(&self) -> bool {

@@ -13,8 +13,8 @@ use crate::watch::Watch;
 use crate::watched_file::WatchedFile;
 use cmd_nodes::{Admission, Network, Sockets};
 use cmd_options::{Ended, ended_by};
-use cmd_page::sum_of;
 use files::Disk;
+use sha2::{Digest, Sha256};
 use std::alloc::AllocError as NoMemory;
 use std::cell::Cell;
 use std::env;
@@ -286,7 +286,9 @@ impl<'a> Disk for System<'a> {
     fn program_sum(&self) -> Option<[u8; 32]> {
         let path = env::current_exe(self.rt).ok()?;
         let mut file = fs::open(self.rt, path).ok()?;
-        sum_of(&mut file, u64::MAX).ok()
+        let mut bytes = Vec::new(self.rt.alloc());
+        file.read_to_end(&mut bytes).ok()?;
+        Some(Sha256::digest(&bytes))
     }
 
     fn tells_terminal(&self) -> bool {

@@ -20,6 +20,7 @@
 #![tactic(auto)]
 
 mod asked;
+mod asking;
 mod bitmap;
 mod cells;
 mod checks;

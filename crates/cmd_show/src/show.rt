@@ -2,8 +2,8 @@
 ghost use Rattle.std.specs.Prelude.{◌≡◌, ◌⊎◌, IfErr, IfOk};
 ghost use Rattle.cmd_show.specs.WholeLines.{EndsInLines, GrowsByLines};
 
+use crate::asking::Asking;
 use crate::printer::Printer;
-use cmd_lines::LineLoop;
 use cmd_options::{Ended, Outcome, Showing, told};
 use std::alloc::Global;
 use std::io::{Read, Write};
@@ -33,11 +33,15 @@ fn show_for<R: Read, W: Write>(
     ensures lines { IfOk result (λ o. GrowsByLines (W.contents answers.old) (W.contents answers.new)) }
     ensures err { IfErr result (λ e. (e ≡ Ended.NoMemory) ⊎ (e ≡ Ended.Stream)) }
 {
-    let mut printer = Printer::new(alloc, *showing, answers);
-    let mut lines = LineLoop::new(alloc);
-    if let Err(stopped) = lines.take_from(input, u64::MAX, &mut printer) {
-        return Err(stopped.ended(Ended::Stream));
+    let mut asking = Asking::new(alloc);
+    let mut printer = Printer::new(alloc, *showing);
+    'pieces: for _ in 0..u64::MAX {
+        let more = asking.read(input)?;
+        printer.print_all(asking.asked(), answers)?;
+        if !more {
+            return Ok(printer.outcome());
+        }
     }
-    lines.end(&mut printer)?;
-    Ok(printer.outcome())
+    // No stream has so many pieces.
+    Err(Ended::Stream)
 }

@@ -82,13 +82,15 @@ let each_of_processes processes each f roots =
     Unix._exit 0 in
   let begun i =
     let input, output = Unix.pipe () in
-    if Unix.fork () = 0 then child i (Unix.out_channel_of_descr output);
+    let process = Unix.fork () in
+    if process = 0 then child i (Unix.out_channel_of_descr output);
     Unix.close output;
-    Unix.in_channel_of_descr input in
+    (process, Unix.in_channel_of_descr input) in
   let inputs = Array.init processes begun in
   let all = Array.make (Array.length roots) None in
-  let take i input =
+  let take i (process, input) =
     let tallies, more_kinds, more_faults = Marshal.from_channel input in
+    ignore (Unix.waitpid [] process);
     List.iter2 (fun k tally -> all.(k) <- Some tally) (share i) tallies;
     Array.iteri (fun k more -> kinds.(k) <- kinds.(k) + more) more_kinds;
     faults := !faults + more_faults in
@@ -206,7 +208,8 @@ let obey words =
   | _ -> raise Bad
 
 let () =
-  Gc.set { (Gc.get ()) with minor_heap_size = 1 lsl 18; space_overhead = 200 };
+  Gc.set { (Gc.get ()) with minor_heap_size = 1 lsl 20; space_overhead = 200 };
   try obey (List.tl (Array.to_list Sys.argv)) with
   | Bad | Invalid_argument _ -> prerr_endline usage; exit 2
   | Sys_error what -> prerr_endline what; exit 4
+  | End_of_file -> prerr_endline "a process ended early"; exit 4

@@ -3,11 +3,12 @@
 
     kernel.py N BEST ONES < LEDGER > Small.v && coqc Small.v     (in this folder, after make)
 
-The ledger is that of the whole tree of N states, of the kinds H, C, T, B and F. Two states take seconds, three two minutes; four
-are too many. Ends with 1 where a record is of another kind."""
+The ledger is that of the whole tree of N states, of the kinds H, C, T, B, F and N. Two states take seconds, three some minutes;
+four are too many. Ends with 1 where a record is of another kind."""
 import sys
 
 SIDES = {"L": "Left", "R": "Right"}
+SYMBOLS = {"0": "Blank", "1": "One"}
 
 FILE = """Require Import Answers.
 From Coq Require Import String.
@@ -58,6 +59,20 @@ def reduced(states, side, m, delta, rows, keep):
     return f"Reduced {SIDES[side]} [{'; '.join(readers)}] {nodes(states, halt, int(keep, 16))}"
 
 
+def word(text):
+    return "[" + "; ".join(SYMBOLS[symbol] for symbol in text) + "]"
+
+
+def closed(g, left, right, locals_):
+    """The certificate of a record of the kind N: words on the left from the head outwards, as all words."""
+    g, some = int(g), []
+    for text in locals_.split(","):
+        some.append(f"local {word(text[g - 1 :: -1])} {ord(text[g]) - 65} {SYMBOLS[text[g + 1]]} {word(text[g + 2 :])}")
+    lefts = "; ".join(word(text[::-1]) for text in left.split(","))
+    rights = "; ".join(word(text) for text in right.split(","))
+    return f"Closed {g} [{lefts}] [{rights}] [{'; '.join(some)}]"
+
+
 def certificate(states, kind, *fields):
     if kind == "H":
         return f"Halts {fields[0]} (Some {fields[1]}%N)"
@@ -69,6 +84,8 @@ def certificate(states, kind, *fields):
         return f"Backwards {fields[0]}"
     if kind == "F":
         return reduced(states, *fields)
+    if kind == "N":
+        return closed(*fields)
     sys.exit(f"kernel: a record of the kind {kind}")
 
 

@@ -34,7 +34,8 @@ let is_word text from until word =
 let slot text places word h =
   let mask = Array.length places - 1 in
   let k = ref (h land mask) in
-  while places.(!k) >= 0 && not (is_word text places.(!k) (word_end text places.(!k)) word) do k := (!k + 1) land mask done;
+  let is_other from = not (is_word text from (word_end text from) word) in
+  while places.(!k) >= 0 && is_other places.(!k) do k := (!k + 1) land mask done;
   !k
 
 (* the lines of a text from a place on *)
@@ -58,16 +59,19 @@ let placed text from =
 
 (* whether a line is a header; its table *)
 let header_of line =
-  if String.length line < 12 || String.sub line 0 10 <> "bb-ledger " || (line.[10] <> '1' && line.[10] <> '2') || line.[11] <> ' '
-  then None
-  else Some (line.[10], rest_of line 12)
+  if String.length line < 12 then None
+  else match String.sub line 0 12 with
+    | "bb-ledger 1 " | "bb-ledger 2 " -> Some (line.[10], rest_of line 12)
+    | _ -> None
 
 (* the ledger of a text whose first line has the number `first`; none where that isn't a header *)
 let of_text path first text =
   let until = line_end text 0 in
   match header_of (String.sub text 0 until) with
   | None -> None
-  | Some (version, root) -> Some { path; root; version; text; first; places = placed text (min (until + 1) (String.length text)) }
+  | Some (version, root) ->
+      let places = placed text (min (until + 1) (String.length text)) in
+      Some { path; root; version; text; first; places }
 
 (* where a table's record stands *)
 let place ledger table =

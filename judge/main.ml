@@ -1,13 +1,13 @@
 (* Hands records and ledgers to the judge, and prints what it answers:
 
-     judge N LEDGER [PROCESSES]   the tree of N states: a ledger, ledgers one behind the other as contrib/pack.sh prints them
-                                  (- is standard input), or a folder of a tree in parts, by so many processes
+     judge N LEDGER [PROCESSES]   the tree of N states: a ledger, ledgers one behind the other as contrib/pack.sh prints
+                                  them (- is standard input), or a folder of a tree in parts, by so many processes
      judge part TABLE LEDGER      the tree below a table alone
      judge check                  records, one per line of standard input
 
-   The report is that of `bb report` and `bb join`. Standard error names each record that is refused by its file and line, and
-   says how many records of each kind were judged. It ends with 0 where the tree is complete, or each line was accepted; with
-   1 otherwise, with 2 after other words than these, with 4 where a file can't be read. *)
+   The report is that of `bb report` and `bb join`. Standard error names each record that is refused by its file and
+   line, and says how many records of each kind were judged. It ends with 0 where the tree is complete, or each line was
+   accepted; with 1 otherwise, with 2 after other words than these, with 4 where a file can't be read. *)
 open Judging
 open Reading
 
@@ -125,7 +125,8 @@ let each_of_stream path next f roots =
     | _ -> say "%s: line %d: refused: this isn't the header of a part that is open" path first in
   let rec all () = match next () with None -> () | Some (first, text) -> take first text; all () in
   all ();
-  List.map (fun root -> match Hashtbl.find_opt tallies (text_of root) with None -> with_part f root None | Some b -> b) roots
+  let tally_of root = match Hashtbl.find_opt tallies (text_of root) with None -> with_part f root None | Some b -> b in
+  List.map tally_of roots
 
 (* the report of bb; holdouts are the tables whose record doesn't stand, or claims nothing *)
 let report root a =
@@ -142,8 +143,10 @@ let report root a =
   Printf.printf "ones %s\n" (greatest a.ones_best);
   lines "ones_champion" a.ones_champions;
   lines "holdout" a.refused;
-  let count k kind = if kinds.(k) > 0 then Printf.eprintf "%c %d%s\n" kind kinds.(k) (if kind = 'P' then ", taken on trust" else "") in
-  String.iter (fun kind -> count (Char.code kind) kind) "HCTBFANWRPU";
+  let count kind =
+    let many = kinds.(Char.code kind) and trusted = if kind = 'P' then ", taken on trust" else "" in
+    if many > 0 then Printf.eprintf "%c %d%s\n" kind many trusted in
+  String.iter count "HCTBFANWRPU";
   exit (if status = "complete" && !faults = 0 then 0 else 1)
 
 let of_states n path processes =

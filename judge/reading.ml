@@ -1,5 +1,5 @@
-(* Reads tables and certificates from their texts (docs/FORMATS.md), and prints tables. Nothing here is proved, and nothing
-   has to be: whatever a certificate is read as, the judge answers truly of its table. *)
+(* Reads tables and certificates from their texts (docs/FORMATS.md), and prints tables. Nothing here is proved, and
+   nothing has to be: whatever a certificate is read as, the judge answers truly of its table. *)
 open Judging
 
 (* what isn't read *)

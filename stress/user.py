@@ -8,7 +8,7 @@ terminal and elsewhere; tables and records as arguments and in files, and why a 
 isn't there, and a coordinator and workers of which some are killed, or too many come; how far a command is; answers of which
 only the beginning is read; wrong command lines; a file given where lines are read, and lines where a file is; trees in parts by
 the scripts of contrib/, from another folder, with too little disk, with a part that can't be settled, as they are packaged, and
-beside the plain judge that README names; what bash completes, and the Debian package, which are made of the kept program where
+beside the judge in Coq that README names; what bash completes, and the Debian package, which are made of the kept program where
 bash and dpkg-deb are there. What has to come is from README, docs/FORMATS.md, docs/TOUR.md and docs/FIVE.md. Prints what
 differs, and how much was tried; ends with 1 where anything differs.
 """

@@ -33,6 +33,14 @@ def built(folder, name):
     return path
 
 
+def judge(folder):
+    """The judge that is proved in Coq, built by OCaml in a folder."""
+    place = os.path.join(folder, "judge")
+    subprocess.run([os.path.join(TOP, "packaging", "judge"), place], check=True)
+    subprocess.run(["make", "-s", "-C", place, "program"], check=True)
+    return os.path.join(place, "judge")
+
+
 def beside_plain(kind, name, records, count, turns=3):
     """Times bb check against a plain Rust program on so many records of a kind, those given again and again, and prints the row;
     whether both print the same. The two are run in turn, and the least time of each counts."""

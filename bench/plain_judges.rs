@@ -1,5 +1,5 @@
 //! Judges of halting, loops, backward reasoning and finite automata reduction in plain Rust, from docs/FORMATS.md: what
-//! plain_join.rs uses beside those of large and counted automata and of rules with induction.
+//! plain_check.rs uses beside those of large and counted automata.
 use super::machine::{halts_on, number, Entry, Row};
 use std::collections::HashMap;
 

@@ -2,20 +2,18 @@
 """The tree of six states, by a sample: bench/six.py [COUNT [SEED ..]] draws tables with weights (bench/sample_six.rs), COUNT or
 more for each seed (1,000,000, and the seeds 1 to 5, if not said), gives them to `bb decide --hard`, and prints the rows of
 docs/SIX.md: how large the tree is by that, how many tables of a million there are of each kind, what is left, microseconds and
-bytes a table. Each record is judged again, by `bb check` and by the plain judges of this folder (bench/plain_check.rs), or by
-stress/induction.py, which judges rules. What is left
-goes to FILE where LEFT=FILE is in the environment, with weights.
+bytes a table. Each record is judged again, by `bb check` and by the judge of judge/ (which needs ocamlfind). What is left goes to
+FILE where LEFT=FILE is in the environment, with weights.
 """
 import collections
 import os
 import sys
 import tempfile
 
-from measured import built, run
+from measured import built, judge, run
 from program import PROGRAM, TOP
 
 KINDS = "HCTBFAWRU"
-INDUCTION = [sys.executable, os.path.join(TOP, "stress", "induction.py"), "judge"]
 
 
 def drawn(sampler, seed, count):
@@ -31,21 +29,13 @@ def is_accepted(answers, records):
                for answer, record in pairs)
 
 
-def are_judged(judge, records):
-    """Whether the judges outside of the program accept each record."""
-    rules = [record for record in records if b" R " in record]
-    others = [record for record in records if b" R " not in record]
-    return all(is_accepted(run(command, b"".join(record + b"\n" for record in some))[1], some)
-               for command, some in (([judge], others), (INDUCTION, rules)))
-
-
-def of_seed(sampler, judge, seed, count):
+def of_seed(sampler, other, seed, count):
     """Prints the row of a seed; the tables that are left, with their weights."""
     sample = drawn(sampler, seed, count)
     tables = b"".join(table + b"\n" for table, _ in sample)
     seconds, out = run([PROGRAM, "decide", "--hard"], tables)
     records = out.split(b"\n")[:-1]
-    if not is_accepted(run([PROGRAM, "check"], out)[1], records) or not are_judged(judge, records):
+    if not all(is_accepted(run([program, "check"], out)[1], records) for program in (PROGRAM, other)):
         sys.exit("a record isn't accepted")
     whole = sum(weight for _, weight in sample)
     shares, size, left = collections.Counter(), 0.0, []
@@ -64,10 +54,10 @@ def main():
     count = int(sys.argv[1]) if len(sys.argv) > 1 else 1_000_000
     seeds = [int(word) for word in sys.argv[2:]] or range(1, 6)
     with tempfile.TemporaryDirectory() as folder:
-        sampler, judge = built(folder, "sample_six"), built(folder, "plain_check")
+        sampler, other = built(folder, "sample_six"), judge(folder)
         print("| seed | tables | the tree | " + " | ".join(f"`{kind}`" for kind in KINDS) + " | microseconds | bytes |")
         print("|" + "---|" * (5 + len(KINDS)))
-        found = [of_seed(sampler, judge, seed, count) for seed in seeds]
+        found = [of_seed(sampler, other, seed, count) for seed in seeds]
     sizes = [whole for _, whole in found]
     mean = sum(sizes) / len(sizes)
     spread = (sum((size - mean) ** 2 for size in sizes) / max(1, len(sizes) - 1)) ** 0.5

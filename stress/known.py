@@ -3,7 +3,7 @@
 
 They are those of the tree of five states that no search of bb finds. The searches that found them were plain programs that aren't
 kept here; HOW says what each did, so that they can be made again. Whoever doesn't believe in them needn't: bb judges each record,
-and so do the plain programs of bench/ (plain_check.rs), as this script does. It also asks `bb decide --hard` for each table,
+and so does the judge of judge/ (which needs ocamlfind), as this script does. It also asks `bb decide --hard` for each table,
 which finds none, and says what is then to be taken out of the file where it finds one after all. Ends with 1 where something is not so.
 """
 import os
@@ -12,7 +12,7 @@ import tempfile
 
 TOP = os.path.dirname(os.path.dirname(os.path.abspath(__file__)))
 sys.path.insert(0, os.path.join(TOP, "bench"))
-from measured import built, run  # noqa: E402
+from measured import judge, run  # noqa: E402
 from program import PROGRAM  # noqa: E402
 
 LEARNED = """The half tapes of 2,000 steps of the run, read from far away, are put into a tree for each side. Two nodes are one state
@@ -48,7 +48,7 @@ def main():
     text = "".join(record + "\n" for record in records).encode()
     never = "".join(f"{table} never\n" for table in tables).encode()
     with tempfile.TemporaryDirectory() as folder:
-        stands = run([PROGRAM, "check"], text)[1] == never == run([built(folder, "plain_check")], text)[1]
+        stands = run([PROGRAM, "check"], text)[1] == never == run([judge(folder), "check"], text)[1]
     found = run([PROGRAM, "decide", "--hard"], "".join(table + "\n" for table in tables).encode())[1].decode().splitlines()
     for record, answer in zip(records, found, strict=True):
         print(what(record))

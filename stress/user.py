@@ -8,7 +8,7 @@ terminal and elsewhere; tables and records as arguments and in files, and why a 
 isn't there, and a coordinator and workers of which some are killed, or too many come; how far a command is; answers of which
 only the beginning is read; wrong command lines; a file given where lines are read, and lines where a file is; trees in parts by
 the scripts of contrib/, from another folder, with too little disk, with a part that can't be settled, as they are packaged, and
-beside the plain judge that README names; what bash completes, and the Debian package, which are made of the kept program where
+beside the judge in Coq that README names; what bash completes, and the Debian package, which are made of the kept program where
 bash and dpkg-deb are there. What has to come is from README, docs/FORMATS.md, docs/TOUR.md and docs/FIVE.md. Prints what
 differs, and how much was tried; ends with 1 where anything differs.
 """
@@ -473,12 +473,12 @@ def trees(tries, program):
         if name.startswith("tree"):
             tries.expect(re.search(r"^disk: a tree of 3 states takes 1 MB; three has 0 MB of it, and \d+ MB are free$", faults, re.MULTILINE), f"contrib/{name} doesn't say how much disk: {faults!r}")
             tries.expect(re.search(r"^24 of 24 parts done, 5412 tables, \d+ a second, 0:00:00 left$", faults, re.MULTILINE), f"contrib/{name} doesn't say what is done: {faults!r}")
-    if shutil.which("rustc"):
-        plain = os.path.join(TOP, "bench", "plain_join.rs")
-        status, said, faults = tries.run(f"rustc --edition 2021 -O -o ../plain_join {plain} && ../plain_join three 4")
-        tries.expect((status, said) == (0, due), f"the plain judge of a tree: {status}, {said!r}, {faults!r}")
+    if shutil.which("ocamlfind"):
+        made(tries, ["judge", os.path.join(tries.folder, "judge")])
+        status, said, faults = tries.run("make -s -C ../judge program && ../judge/judge 3 three 4")
+        tries.expect((status, said) == (0, due), f"the judge of judge/, of a tree: {status}, {said!r}, {faults!r}")
     else:
-        print("user: there is no rustc, and the plain judge wasn't asked")
+        print("user: there is no ocamlfind, and the judge of judge/ wasn't asked")
     status, said, faults = tries.run("BB=../house/slow EVERY=1 JOBS=1 ../house/contrib/tree.sh 2 slowly")
     tries.expect(status == 0 and TWO_STATES in said, f"contrib/tree.sh 2 by a slow program: {status}, {said!r}")
     tries.expect(re.search(r"^[1-3] of 4 parts done, \d+ tables, \d+ a second, \d+:\d\d:\d\d left$", faults, re.MULTILINE), f"contrib/tree.sh doesn't say how far it is: {faults!r}")

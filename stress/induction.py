@@ -7,7 +7,7 @@ stress/induction.py compare RECORDS [PROGRAM ..]
                                              has both tried on the records and 2,000 changed ones: what the program prints,
                                              `bb check` where none is named, has to be what is judged here
 
-The judgement is that of forms.py. The records of crates/cases/data/rules.case are some to begin with.
+The judgement is that of forms.py. The records of stress/cases/rules.case are some to begin with.
 """
 import re
 import sys

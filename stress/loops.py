@@ -31,7 +31,7 @@ def main():
     chance = random.Random(seed)
     kinds = collections.Counter()
     with tempfile.TemporaryDirectory() as folder:
-        plain = [built(folder, "plain_decide"), "0", "0", "0"]
+        plain = [built(folder, "plain_decide")]
         for first in range(0, count, PIECE):
             text = "".join(table(chance) for _ in range(min(PIECE, count - first))).encode()
             ours, theirs = (run(command, text)[1].splitlines() for command in (DECIDE, plain))

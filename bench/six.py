@@ -3,7 +3,7 @@
 more for each seed (1,000,000, and the seeds 1 to 5, if not said), gives them to `bb decide --hard`, and prints the rows of
 docs/SIX.md: how large the tree is by that, how many tables of a million there are of each kind, what is left, microseconds and
 bytes a table. Each record is judged again, by `bb check` and by the plain judges of this folder (bench/plain_check.rs), or by
-stress/induction.py, which judges rules. What is left
+stress/kinds.py R, which judges rules. What is left
 goes to FILE where LEFT=FILE is in the environment, with weights.
 """
 import collections
@@ -15,7 +15,7 @@ from measured import built, run
 from program import PROGRAM, TOP
 
 KINDS = "HCTBFAWRU"
-INDUCTION = [sys.executable, os.path.join(TOP, "stress", "induction.py"), "judge"]
+INDUCTION = [sys.executable, os.path.join(TOP, "stress", "kinds.py"), "R", "judge"]
 
 
 def drawn(sampler, seed, count):

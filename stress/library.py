@@ -30,7 +30,7 @@ import threading
 
 import library_alone
 from oracle import NAMED
-from records import SEEDS, damaged, found, random_table
+from kinds import SEEDS, damaged, found, random_table
 
 TOP = os.path.dirname(os.path.dirname(os.path.abspath(__file__)))
 sys.path.insert(0, os.path.join(TOP, "bench"))

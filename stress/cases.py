@@ -337,9 +337,6 @@ def play(shim, case):
 
 
 def main():
-    if sys.argv[1:] in (["--help"], ["-h"]):
-        print(__doc__.strip())
-        return 0
     paths = sys.argv[1:] or sorted(path for folder in FOLDERS for path in glob.glob(os.path.join(folder, "*.case")))
     cases = [case for path in paths for case in cases_of(path)]
     top = tempfile.mkdtemp(prefix="bb-shim-")

@@ -74,7 +74,22 @@ pub fn done(
         Options::Run { settling, ledger } => {
             ran(alloc, settling, path_of(ledger), files, streams)?
         }
-        _ => return Ok(None),
+        // No row has these.
+        Options::Explain(_)
+        | Options::Show(_)
+        | Options::Tables(_)
+        | Options::Coord { .. }
+        | Options::CoordPart(_)
+        | Options::Work(_)
+        | Options::Loop { .. }
+        | Options::Walk(_)
+        | Options::Mend(_)
+        | Options::Split(_)
+        | Options::Settle(_)
+        | Options::Join(_)
+        | Options::Look(_)
+        | Options::Draw(_)
+        | Options::Page(_) => return Ok(None),
     };
     Ok(Some(outcome))
 }

@@ -72,6 +72,8 @@ class Callers(Nobody):
         self.lines = None if text is None else text.decode().split("\n")[:-1]
         self.token, self.unshown = token, []
         self.peers, self.sent, self.ports = [], [], {}
+        # Whose connection ended while others were still there.
+        self.let_go = set()
         self.script, self.ours = socket.socketpair(socket.AF_UNIX, socket.SOCK_SEQPACKET)
         with socket.create_server(("127.0.0.1", 0)) as taken:
             self.port = taken.getsockname()[1]
@@ -93,7 +95,7 @@ class Callers(Nobody):
     def play(self):
         lines = iter(self.lines or ())
         while self.ours.recv(1):
-            self.hear()
+            self.let_go |= self.hear()
             said = self.show_token() or next((said for line in lines if (said := self.carry(line))), "f")
             try:
                 self.ours.send(said.encode())
@@ -135,7 +137,8 @@ class Callers(Nobody):
         return "g"
 
     def hear(self):
-        """What was sent to the peers, and who was let go."""
+        """Takes what was sent to the peers, and gives the places of those whose connection has ended."""
+        ended = set()
         for place, peer in enumerate(self.peers):
             while peer and select.select([peer], [], [], 0)[0]:
                 try:
@@ -146,6 +149,8 @@ class Callers(Nobody):
                 if not piece:
                     peer.close()
                     self.peers[place] = peer = None
+                    ended.add(place)
+        return ended
 
 
 class Coordinators(Nobody):
@@ -357,8 +362,9 @@ class Calls:
 
     def tell(self, told):
         for port, why in HERALD.findall(told):
-            if why and not why.startswith((b"it has closed", b"the connection")):
-                self.calls.append(f"dismissed {self.network.ports[int(port)]} {why.decode()}")
+            place = self.network.ports[int(port)]
+            if why and place in self.network.let_go:
+                self.calls.append(f"dismissed {place} {why.decode()}")
         for path, count, kept_at in CUT.findall(told):
             self.calls += [f"told of the cut {path.decode()} {count.decode()}", f"kept at {kept_at.decode()}"]
         self.calls += [f"again in {why.decode()} {seconds.decode()}" for why, seconds in AGAIN.findall(told)]

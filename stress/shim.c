@@ -97,29 +97,17 @@ static int is_refused(void)
     return 1;
 }
 
-void *malloc(size_t size)
-{
-    REAL(void *, malloc, size_t);
-    return is_refused() ? NULL : real(size);
-}
+#define ASKS(result, none, name, parameters, arguments, ...) \
+    result name parameters \
+    { \
+        REAL(result, name, __VA_ARGS__); \
+        return is_refused() ? none : real arguments; \
+    }
 
-void *realloc(void *block, size_t size)
-{
-    REAL(void *, realloc, void *, size_t);
-    return is_refused() ? NULL : real(block, size);
-}
-
-void *aligned_alloc(size_t align, size_t size)
-{
-    REAL(void *, aligned_alloc, size_t, size_t);
-    return is_refused() ? NULL : real(align, size);
-}
-
-int posix_memalign(void **block, size_t align, size_t size)
-{
-    REAL(int, posix_memalign, void **, size_t, size_t);
-    return is_refused() ? ENOMEM : real(block, align, size);
-}
+ASKS(void *, NULL, malloc, (size_t size), (size), size_t)
+ASKS(void *, NULL, realloc, (void *block, size_t size), (block, size), void *, size_t)
+ASKS(void *, NULL, aligned_alloc, (size_t align, size_t size), (align, size), size_t, size_t)
+ASKS(int, ENOMEM, posix_memalign, (void **block, size_t align, size_t size), (block, align, size), void **, size_t, size_t)
 
 void *calloc(size_t many, size_t size)
 {

@@ -3,16 +3,16 @@ use crate::mem_files::MemFiles;
 use cmd_json::LinesOrJson;
 use cmd_ledgers::{cmd_carry, cmd_merge, cmd_report, cmd_report_stream, cmd_retry};
 use cmd_lines::{Reader, TableText, cmd_check, cmd_decide};
-use cmd_nodes::{Run, cmd_coord, cmd_run};
-use cmd_options::{Beginning, Ended, LedgerFile, Options, Outcome, Reporting, Settling};
-use files::{Files, Progress, held_at, ledger_at};
+use cmd_nodes::{NoLedger, Run, cmd_coord, cmd_run};
+use cmd_options::{
+    Beginning, Ended, LedgerFile, Options, Outcome, Reporting, Retrying, Search, Settling,
+};
+use files::{Files, Opened, Progress, held_at, ledger_at};
 use find_search::decider_for;
 use lease_core::Worker;
 use ledger::Board;
 use std::alloc::Global;
-
-// The ledger of a command that isn't given one: no row has a file of this name.
-const UNNAMED: &str = "";
+use std::io;
 
 // Nobody is told how far it is.
 #[derive(Drop)]
@@ -37,50 +37,45 @@ pub fn done(
     files: &mut MemFiles,
     streams: &mut Streams<'_>,
 ) -> Result<Option<Outcome>, Ended> {
-    let Streams {
-        input,
-        answers,
-        faults,
-    } = streams;
     let outcome = match asked {
-        Options::Check(_) => cmd_check(alloc, Reader::Script, input, answers, faults),
-        Options::Decide(deciding) => {
-            let mut decider = decider_for(alloc, None, &deciding.search)?;
-            cmd_decide(
-                alloc,
-                Reader::Script,
-                TableText::Standard,
-                &mut decider,
-                input,
-                answers,
-                faults,
-            )
-        }
+        Options::Check(_) => checked(alloc, streams),
+        Options::Decide(deciding) => decided(alloc, &deciding.search, streams)?,
         Options::Report(reporting) => reported(alloc, reporting, files, streams),
-        Options::Retry(retrying) => {
-            let mut decider = decider_for(alloc, None, &retrying.search)?;
-            let file = retrying.file;
-            cmd_retry(
-                alloc, file, files, &mut decider, &mut Untold, answers, faults,
+        Options::Retry(retrying) => retried(alloc, retrying, files, streams)?,
+        Options::Merge(merging) => {
+            cmd_merge(
+                alloc,
+                *merging,
+                files,
+                &mut streams.answers,
+                &mut streams.faults,
             )
         }
-        Options::Merge(merging) => cmd_merge(alloc, *merging, files, answers, faults),
-        Options::Carry(carrying) => cmd_carry(alloc, *carrying, files, answers, faults),
+        Options::Carry(carrying) => {
+            cmd_carry(
+                alloc,
+                *carrying,
+                files,
+                &mut streams.answers,
+                &mut streams.faults,
+            )
+        }
         Options::Coord {
             beginning,
-            ledger,
+            ledger: Some(file),
             listening: None,
-        } => coordinated(alloc, *beginning, path_of(ledger), files, streams)?,
-        Options::Run { settling, ledger } => {
-            ran(alloc, settling, path_of(ledger), files, streams)?
-        }
-        // No row has these.
+        } => coordinated(alloc, *beginning, *file, files, streams)?,
+        Options::Run {
+            settling,
+            ledger: None,
+        } => ran(alloc, settling, streams)?,
         Options::Explain(_)
         | Options::Show(_)
         | Options::Tables(_)
         | Options::Coord { .. }
         | Options::CoordPart(_)
         | Options::Work(_)
+        | Options::Run { .. }
         | Options::Loop { .. }
         | Options::Walk(_)
         | Options::Mend(_)
@@ -94,11 +89,44 @@ pub fn done(
     Ok(Some(outcome))
 }
 
-fn path_of<'a>(ledger: &Option<LedgerFile<'a>>) -> &'a str {
-    match ledger {
-        Some(file) => file.path,
-        None => UNNAMED,
-    }
+fn checked(alloc: Global, streams: &mut Streams<'_>) -> Outcome {
+    let (input, faults) = (&mut streams.input, &mut streams.faults);
+    cmd_check(alloc, Reader::Script, input, &mut streams.answers, faults)
+}
+
+fn decided(
+    alloc: Global,
+    search: &Search<'_>,
+    streams: &mut Streams<'_>,
+) -> Result<Outcome, Ended> {
+    let mut decider = decider_for(alloc, None, search)?;
+    Ok(cmd_decide(
+        alloc,
+        Reader::Script,
+        TableText::Standard,
+        &mut decider,
+        &mut streams.input,
+        &mut streams.answers,
+        &mut streams.faults,
+    ))
+}
+
+fn retried(
+    alloc: Global,
+    retrying: &Retrying<'_>,
+    files: &mut MemFiles,
+    streams: &mut Streams<'_>,
+) -> Result<Outcome, Ended> {
+    let mut decider = decider_for(alloc, None, &retrying.search)?;
+    Ok(cmd_retry(
+        alloc,
+        retrying.file,
+        files,
+        &mut decider,
+        &mut Untold,
+        &mut streams.answers,
+        &mut streams.faults,
+    ))
 }
 
 fn reported(
@@ -108,34 +136,24 @@ fn reported(
     streams: &mut Streams<'_>,
 ) -> Outcome {
     let form = LinesOrJson::of(reporting.json);
-    let Streams {
-        input,
-        answers,
-        faults,
-    } = streams;
+    let (answers, faults) = (&mut streams.answers, &mut streams.faults);
     if reporting.file == "-" {
+        let input = &mut streams.input;
         return cmd_report_stream(alloc, &form, reporting.why, input, answers, faults);
     }
-    cmd_report(
-        alloc,
-        &form,
-        reporting.why,
-        reporting.file,
-        files,
-        answers,
-        faults,
-    )
+    let path = reporting.file;
+    cmd_report(alloc, &form, reporting.why, path, files, answers, faults)
 }
 
 fn coordinated(
     alloc: Global,
     beginning: Beginning,
-    path: &str,
+    file: LedgerFile<'_>,
     files: &mut MemFiles,
     streams: &mut Streams<'_>,
 ) -> Result<Outcome, Ended> {
-    let held = held_at(files, path);
-    let mut ledger = ledger_at(files, &LedgerFile::on_disk(path))?;
+    let held = held_at(files, file.path);
+    let mut ledger = ledger_at(files, &file)?;
     if !(1..=7).contains(&beginning.states) {
         return Err(Ended::NoMemory);
     }
@@ -148,26 +166,20 @@ fn coordinated(
         &mut streams.answers,
         &mut streams.faults,
     );
-    files.close(path, ledger);
+    files.close(file.path, ledger);
     Ok(outcome)
 }
 
 fn ran(
     alloc: Global,
     settling: &Settling<'_>,
-    path: &str,
-    files: &mut MemFiles,
     streams: &mut Streams<'_>,
 ) -> Result<Outcome, Ended> {
-    let held = held_at(files, path);
-    let mut ledger = ledger_at(files, &LedgerFile::on_disk(path))?;
     let mut workers = Vec::new(alloc);
     for id in 1..=u32::from(settling.workers) {
         let finders = decider_for(alloc, None, &settling.search)?;
         let (worker, _) = Worker::over(alloc, id, b"", finders);
-        if workers.push(worker).is_err() {
-            return Err(Ended::NoMemory);
-        }
+        workers.push(worker)?;
     }
     let form = LinesOrJson::of(settling.json);
     let run = Run {
@@ -175,18 +187,20 @@ fn ran(
         form: &form,
         workers,
     };
+    let held = Ok(Opened {
+        length: 0,
+        reader: io::empty(),
+    });
     if !(1..=7).contains(&settling.states) {
         return Err(Ended::NoMemory);
     }
-    let outcome = cmd_run(
+    Ok(cmd_run(
         alloc,
         run,
         held,
-        &mut ledger,
+        &mut NoLedger,
         &mut Untold,
         &mut streams.answers,
         &mut streams.faults,
-    );
-    files.close(path, ledger);
-    Ok(outcome)
+    ))
 }

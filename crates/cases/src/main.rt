@@ -10,9 +10,8 @@ mod playing;
 mod row;
 
 use playing::Playing;
-use std::fs;
-use std::io;
 use std::process::ExitCode;
+use std::{fs, io};
 
 fn main(rt: HostRuntime) -> io::Result<ExitCode> {
     let mut is_kept = true;

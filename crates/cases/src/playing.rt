@@ -2,7 +2,7 @@
 use crate::commands::{Streams, done};
 use crate::mem_files::MemFiles;
 use crate::row::Row;
-use cmd_options::{Ended, Outcome};
+use cmd_options::{Ended, Options, Outcome};
 use cmd_words::{LineFault, options};
 use std::alloc::{AllocError as NoMemory, Global};
 use std::io::{self, Write};
@@ -42,7 +42,10 @@ impl<'a> Playing<'a> {
         }
         self.end(0, out)?;
         let (name, commands, differing) = (self.name, self.commands, self.differing);
-        writeln!(out, "{name}: {commands} commands, {differing} of them differ")?;
+        writeln!(
+            out,
+            "{name}: {commands} commands, {differing} of them differ"
+        )?;
         Ok(differing == 0 && commands > 0)
     }
 
@@ -77,7 +80,11 @@ impl<'a> Playing<'a> {
         self.commands = self.commands.saturating_add(1);
         if let Some(what) = self.differs(&row)? {
             self.differing = self.differing.saturating_add(1);
-            writeln!(out, "{}:{number}: {} differs before this line", self.name, what)?;
+            writeln!(
+                out,
+                "{}:{number}: {} differs before this line",
+                self.name, what
+            )?;
         }
         Ok(())
     }
@@ -90,13 +97,7 @@ impl<'a> Playing<'a> {
         }
         let asked = options(self.alloc, &words);
         if let Some(wanted) = &row.asked {
-            let found = match &asked {
-                Ok(asked) => format!(in self.alloc; "{asked:?}")?,
-                Err(LineFault::PathForNumber(_)) => {
-                    "a path where a number belongs".to_string(self.alloc)?
-                }
-                Err(_) => "nothing".to_string(self.alloc)?,
-            };
+            let found = asked_text(self.alloc, &asked)?;
             return Ok((found.as_str() != wanted.as_str()).then_some("what is asked for"));
         }
         let mut streams = Streams {
@@ -133,5 +134,14 @@ impl<'a> Playing<'a> {
             }
         }
         None
+    }
+}
+
+// What words ask for, or what they are refused for.
+fn asked_text(alloc: Global, asked: &Result<Options<'_>, LineFault>) -> Result<String, NoMemory> {
+    match asked {
+        Ok(asked) => format!(in alloc; "{asked:?}"),
+        Err(LineFault::PathForNumber(_)) => "a path where a number belongs".to_string(alloc),
+        Err(_) => "nothing".to_string(alloc),
     }
 }

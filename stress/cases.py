@@ -57,7 +57,7 @@ waiting fails. Of one that is called the file is what the coordinator says over 
 second one, and so on; behind the last the call is refused. An address without a file is one that nobody may listen at.
 
 In a text `\\x0d` is the byte 13, `\\*70000:x;` 70,000 letters x, and `\\\\` a backslash. A file that a command doesn't name is as
-it was. Expected values are from the field's literature, or worked
+it was, and a symbolic link leads where it led. Expected values are from the field's literature, or worked
 out by hand from docs/FORMATS.md.
 """
 import concurrent.futures
@@ -136,9 +136,15 @@ class Scene:
         self.addresses = {address for step in case.steps if (address := address_of(step)[1])}
         os.mkdir(self.folder)
         lay_out(self.folder, case.files, self.addresses)
+        self.links_first = self.links()
 
     def path(self, name):
         return os.path.join(self.folder, name)
+
+    def links(self):
+        """Where each symbolic link leads."""
+        paths = [os.path.join(at, name) for at, _, names in os.walk(self.folder) for name in names]
+        return {os.path.relpath(path, self.folder): os.readlink(path) for path in paths if os.path.islink(path)}
 
     def held(self):
         paths = [os.path.join(at, name) for at, _, names in os.walk(self.folder) for name in names]
@@ -211,6 +217,10 @@ class Scene:
         after = self.held()
         for name, said in step.after.items():
             compared(name, self.is_met(said, after.get(name)), after.get(name))
+        gone = {name for name, said in step.after.items() if said.kind == "gone"}
+        links = {name: to for name, to in self.links_first.items() if name not in gone}
+        compared("links", links == self.links(), self.links())
+        self.links_first = links
         for name in sorted({*before, *after} - {*step.after}):
             compared(name, before.get(name) == after.get(name) or step.others, after.get(name))
 

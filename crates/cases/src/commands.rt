@@ -179,7 +179,9 @@ fn ran(
     for id in 1..=u32::from(settling.workers) {
         let finders = decider_for(alloc, None, &settling.search)?;
         let (worker, _) = Worker::over(alloc, id, b"", finders);
-        workers.push(worker)?;
+        if workers.push(worker).is_err() {
+            return Err(Ended::NoMemory);
+        }
     }
     let form = LinesOrJson::of(settling.json);
     let run = Run {

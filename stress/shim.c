@@ -173,8 +173,7 @@ static void set(int fd, int device, const char *path)
     if (fd < 0 || fd >= MOST)
         return;
     open_ones[fd].device = device;
-    open_ones[fd].place = 0;
-    open_ones[fd].is_full = 0;
+    open_ones[fd].place = open_ones[fd].is_full = 0;
     snprintf(open_ones[fd].path, sizeof open_ones[fd].path, "%s", path);
 }
 
@@ -185,13 +184,13 @@ static ssize_t put(int fd, const void *bytes, size_t size)
     REAL(ssize_t, write, int, const void *, size_t);
     ssize_t done = real(fd, bytes, size);
     int kind = device_of(fd);
-    if (done < 0 || kind == NONE)
+    if (done < 0)
         return done;
     if (kind == ANSWERS || kind == FAULTS)
         note("%s %zd\n", kind == ANSWERS ? "say" : "tell", done);
     else if (kind == SOCKETS)
         note("sent %d %zd\n", open_ones[fd].place, done);
-    else if (done)
+    else if (kind != NONE && done)
         note("append %s %zd\n", open_ones[fd].path, done);
     return done;
 }
@@ -259,7 +258,7 @@ static int is_at(const char *path, const char *other)
 static int opened(int fd, const char *path, int flags, int was_there)
 {
     struct stat found;
-    int writes = (flags & O_ACCMODE) != O_RDONLY;
+    int writes = flags & O_ACCMODE;
     if (fd < 0 || fstat(fd, &found) < 0 || !S_ISREG(found.st_mode) || strncmp(path, "/proc/", 6) == 0)
         return fd;
     set(fd, writes ? FILES : READING, path);
@@ -276,7 +275,7 @@ int openat(int folder, const char *path, int flags, ...)
 {
     begins_work();
     REAL(int, openat, int, const char *, int, ...);
-    int writes = (flags & O_ACCMODE) != O_RDONLY, was_there = access(path, F_OK) == 0, fd;
+    int writes = flags & O_ACCMODE, was_there = access(path, F_OK) == 0, fd;
     size_t done;
     va_list rest;
     va_start(rest, flags);
@@ -348,17 +347,15 @@ static int synced(int fd, int (*real)(int))
     return status;
 }
 
-int fsync(int fd)
-{
-    REAL(int, fsync, int);
-    return synced(fd, real);
-}
+#define SYNCS(name) \
+    int name(int fd) \
+    { \
+        REAL(int, name, int); \
+        return synced(fd, real); \
+    }
 
-int fdatasync(int fd)
-{
-    REAL(int, fdatasync, int);
-    return synced(fd, real);
-}
+SYNCS(fsync)
+SYNCS(fdatasync)
 
 int unlink(const char *path)
 {
@@ -497,10 +494,7 @@ int epoll_wait(int poll, struct epoll_event *events, int most, int wait)
         return real(poll, events, most, 2000);
     if (said[0] == 'r')
         return make_room(events, most);
-    if (said[0] == 't') {
-        now = atol(said + 1) * 1000;
-        return 0;
-    }
+    now = said[0] == 't' ? atol(said + 1) * 1000 : now;
     errno = EIO;
-    return -1;
+    return said[0] == 't' ? 0 : -1;
 }

@@ -232,7 +232,6 @@ class Setting:
         ours, theirs = os.openpty() if "terminal" in self.step.flags else os.pipe()
         if "terminal" in self.step.flags:
             tty.setraw(theirs)
-        os.set_inheritable(theirs, True)
         streams = {"stdin": subprocess.PIPE, "stdout": subprocess.PIPE, "stderr": theirs}
         process = subprocess.Popen(self.words(), cwd=folder, env=environment, pass_fds=files, **streams)
         os.close(theirs)

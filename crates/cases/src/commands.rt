@@ -152,11 +152,12 @@ fn coordinated(
     files: &mut MemFiles,
     streams: &mut Streams<'_>,
 ) -> Result<Outcome, Ended> {
-    let held = held_at(files, file.path);
-    let mut ledger = ledger_at(files, &file)?;
-    if !(1..=7).contains(&beginning.states) {
+    // What `options` promises.
+    if beginning.states < 1 || beginning.states > 7 {
         return Err(Ended::NoMemory);
     }
+    let held = held_at(files, file.path);
+    let mut ledger = ledger_at(files, &file)?;
     let outcome = cmd_coord(
         alloc,
         beginning,
@@ -175,6 +176,9 @@ fn ran(
     settling: &Settling<'_>,
     streams: &mut Streams<'_>,
 ) -> Result<Outcome, Ended> {
+    if settling.states < 1 || settling.states > 7 {
+        return Err(Ended::NoMemory);
+    }
     let mut workers = Vec::new(alloc);
     for id in 1..=u32::from(settling.workers) {
         let finders = decider_for(alloc, None, &settling.search)?;
@@ -193,9 +197,6 @@ fn ran(
         length: 0,
         reader: io::empty(),
     });
-    if !(1..=7).contains(&settling.states) {
-        return Err(Ended::NoMemory);
-    }
     Ok(cmd_run(
         alloc,
         run,

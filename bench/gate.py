@@ -62,6 +62,8 @@ def look(top, found):
 
 
 def main():
+    if sys.argv[1:] == ["--help"]:
+        sys.exit(__doc__.strip())
     command = sys.argv[1:] or ["./ci", "--anew"]
     begun, found = time.monotonic(), {}
     with subprocess.Popen(command, cwd=TOP) as done:

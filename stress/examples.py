@@ -3,8 +3,7 @@
 
 Each line that begins with `$ ` in an indented block is given to the shell, the commands of a document one after the other in one
 folder, where `bb` and `./bb` are the program, which the variable BB names too, and `examples` and `contrib` the folders of these
-names; what is printed on both outputs has to be the lines below it. A file of `examples` that the cases read too, from crates/cases/data, has to be the same there: the gate takes no
-links. Ends with 1 at the first that differs.
+names; what is printed on both outputs has to be the lines below it. A file of `examples` that the cases read too, from stress/cases, has to be the same there. Ends with 1 at the first that differs.
 """
 import filecmp
 import os
@@ -36,7 +35,7 @@ def examples_of(path):
 def twins():
     """The files of `examples` that stand beside the cases too, each with that one's path."""
     for name in sorted(os.listdir(os.path.join(TOP, "examples"))):
-        twin = os.path.join(TOP, "crates", "cases", "data", name)
+        twin = os.path.join(TOP, "stress", "cases", name)
         if os.path.exists(twin):
             yield os.path.join(TOP, "examples", name), twin
 

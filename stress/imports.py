@@ -18,7 +18,7 @@ import sys
 import tempfile
 
 from oracle import mirrored, read_table, run as configurations
-from records import damaged, random_table
+from kinds import damaged, random_table
 
 TOP = os.path.dirname(os.path.dirname(os.path.abspath(__file__)))
 sys.path.insert(0, os.path.join(TOP, "bench"))

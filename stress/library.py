@@ -1,5 +1,5 @@
 #!/usr/bin/env python3
-"""The judge as a library, beside the program: stress/library.py [RECORDS [SEED [ARCHIVE]]], stress/library.py --speed.
+"""The judge as a library, beside the program: stress/library.py [RECORDS [SEED [ARCHIVE]]].
 
 So many records (100,000 where it isn't said) of all kinds, whole and damaged by the seed, are judged by `bb check` and by
 the library: by a program in C, by threads of one in Python and of one in Rust, each of which judges all of them, in another
@@ -10,8 +10,7 @@ and nothing read beyond a text. The library and the wheel are made twice, and ha
 lays out is used with nothing else (stress/library_alone.py). ARCHIVE is what packaging/c/archive builds, else
 crates/libbb/out/liblibbb.a, which is what `rt lib` leaves.
 
-Prints what was tried, and which tools weren't there; ends with 1 where anything differs. --speed prints how many records
-each judges in a second of processor time. Needs a C compiler.
+Prints what was tried, and which tools weren't there; ends with 1 where anything differs. Needs a C compiler.
 """
 import collections
 import doctest
@@ -30,7 +29,7 @@ import threading
 
 import library_alone
 from oracle import NAMED
-from records import SEEDS, damaged, found, random_table
+from kinds import SEEDS, damaged, found, random_table
 
 TOP = os.path.dirname(os.path.dirname(os.path.abspath(__file__)))
 sys.path.insert(0, os.path.join(TOP, "bench"))
@@ -477,48 +476,7 @@ def all_of(count, seed, archive):
         alone(library)
 
 
-def speed(archive):
-    """How many records of the four states' ledger each judges in a second of processor time, the best of three times."""
-    with tempfile.TemporaryDirectory() as room:
-        library = Library(room, archive)
-        busybeaver, _ = installed(library)
-        rust = in_rust(library)
-        text = subprocess.run(["xz", "-dc", os.path.join(TOP, "examples", "four-states.ledger.xz")], capture_output=True, check=True).stdout
-        whole, text = text, text.split(b"\n", 1)[1]
-        path = os.path.join(room, "records")
-        with open(path, "wb") as file:
-            file.write(text)
-        lines = lines_of(path)
-        count = len(lines)
-
-        def by(command):
-            return lambda: ran(command, stdin=open(path, "rb"), stdout=subprocess.DEVNULL)
-
-        def in_python():
-            for line in lines:
-                busybeaver.check(line)
-
-        ways = [("bb check", by([PROGRAM, "check"])), ("C, example.c", by([library.example, path])), ("Python, a loop", in_python)]
-        ways += [("Rust, judge.rs", by([rust, path]))] if rust else []
-        for name, way in ways:
-            took = []
-            for _ in range(3):
-                begun = sum(os.times()[:4])
-                way()
-                took.append(sum(os.times()[:4]) - begun)
-            print(f"{name}: {count / min(took):,.0f} records a second ({count} in {min(took):.2f} s)")
-        ways = [("bb report", lambda: ran([PROGRAM, "report", "-"], input=whole, stdout=subprocess.DEVNULL)),
-                ("Python, report", lambda: busybeaver.report(whole))]
-        for name, way in ways:
-            begun = sum(os.times()[:4])
-            way()
-            print(f"{name}: the ledger in {sum(os.times()[:4]) - begun:.2f} s")
-
-
 def main(words):
-    if words[:1] == ["--speed"]:
-        speed(words[1] if words[1:] else ARCHIVE)
-        return 0
     count = int(words[0]) if words else 100_000
     seed = int(words[1]) if words[1:] else 1
     try:

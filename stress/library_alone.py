@@ -174,6 +174,8 @@ def main(library, program):
 
 
 if __name__ == "__main__":
+    if len(sys.argv) != 3:
+        sys.exit(__doc__.strip())
     try:
         main(*sys.argv[1:3])
     except Differs as differs:

@@ -1,7 +1,6 @@
 #!/usr/bin/env python3
-"""What might lose a ledger, on the built program with what a system has: symbolic and hard links, other spellings of a path, a
-FIFO, standard input under its path, /dev/full, a folder that can't be written, a terminal, what stands where a coordinator is
-told to listen. A part of `./ci`.
+"""What might lose a ledger, with what a system has that no case can say: FIFOs, standard input under its path, a folder that can't
+be written, what stands where a coordinator is told to listen, `./bb` through links. A part of `./ci`.
 
 stress/losses.py: prints how many commands were tried, and ends with 1 at the first that answers otherwise or leaves a file
 otherwise than docs/FORMATS.md says.
@@ -25,7 +24,6 @@ HEADER = b"bb-ledger 2 ------\n"
 ROOT, LEFT, RIGHT = b"------ H 1 1\n", b"0RA--- T 0 1 R\n", b"1RA--- T 0 1 R\n"
 WHOLE = HEADER + ROOT + LEFT + RIGHT
 SPOILT = HEADER + ROOT + LEFT[:-1] + b"\r\n" + RIGHT
-CUT = LEFT[:-1] + b"\r\n" + RIGHT
 
 # What ends a command whose files or streams fail; a line behind it names what failed.
 REFUSED = (b"refused 603\n", b"refused 604\n", b"refused 605\n", b"refused 606: another process writes the ledger\n")
@@ -117,49 +115,6 @@ class Room:
         return name
 
 
-def over_what_is_read():
-    """`join` writes over none of the ledgers that it reads, whatever name leads there."""
-    refused = b"refused 408: OUT is a ledger of the folder\n"
-    room = Room(PARTS)
-    os.symlink("parts/trunk.ledger", room.at("trunk"))
-    os.symlink("parts/0RA---.ledger", room.at("part"))
-    os.symlink("part", room.at("twice"))
-    os.link(room.at("parts/1RA---.ledger"), room.at("second"))
-    names = ["parts/trunk.ledger", "parts/0RA---.ledger", "./parts//1RA---.ledger", "parts/../parts/trunk.ledger", room.at("parts/trunk.ledger")]
-    for name in [*names, "trunk", "part", "twice", "second"]:
-        room.run(["join", "parts", "--ledger", name], 1, faults=refused)
-        room.run(["join", "--json", "parts", "--ledger", name], 1, faults=refused)
-    # the name of the new file beside OUT may be a link to what is read: it is removed, and never written to
-    for name in PARTS:
-        os.link(room.at(name), room.at("out.new"))
-        room.run(["join", "parts", "--ledger", "out", "--replace"], 0, REPORT, after={"out": WHOLE}, gone=["out.new"])
-        os.symlink(name, room.at("out.new"))
-        room.run(["join", "parts", "--ledger", "out", "--replace"], 0, REPORT, after={"out": WHOLE}, gone=["out.new"])
-    # a part that is a link to that name would be lost
-    room = Room({**PARTS, "out.new": PARTS["parts/0RA---.ledger"]})
-    os.remove(room.at("parts/0RA---.ledger"))
-    os.symlink("../out.new", room.at("parts/0RA---.ledger"))
-    room.run(["join", "parts", "--ledger", "out"], 1, faults=refused)
-
-
-def beside_out():
-    """The file beside OUT is none that is read; OUT may be one."""
-    room = Room({"a": TRUNK, "a.new": HEADER + ROOT + LEFT, "b": HEADER + ROOT + RIGHT})
-    merged = b"merged 2 open 1 holdouts 0\n"
-    for name in ("a.new", "./a.new", room.at("a.new")):
-        room.run(["merge", "a", name, "a", "--replace"], 0, merged, after={"a": HEADER + ROOT + LEFT})
-        room.run(["merge", name, "a", "a", "--replace"], 0, merged)
-        room.run(["carry", name, "a", "--replace"], 0, b"carried 2 halting 1\n")
-        room.run(["mend", name, "a", "--replace"], 0, b"mended 2 dropped 0\n")
-    with open(room.at("a.new"), "rb") as file:
-        room.run(["mend", "-", "a", "--replace"], 0, b"mended 2 dropped 0\n", stdin=file)
-    os.link(room.at("b"), room.at("out.new"))
-    room.run(["merge", "a", "b", "out"], 0, b"merged 3 open 0 holdouts 0\n", after={"out": WHOLE})
-    if not os.path.samefile(room.at("b"), room.at("out.new")):
-        sys.exit("losses: merge: out.new is gone, which is a second name of B")
-    room.run(["merge", "a", "b", "b", "--replace"], 0, b"merged 3 open 0 holdouts 0\n", after={"b": WHOLE})
-
-
 def unless_replaced():
     """An OUT that is there already stays as it is, and nothing is made beside it, unless it is to be replaced; what is wrong with
     what is read is said first."""
@@ -215,126 +170,6 @@ def half_lines():
             sys.exit(f"losses: walk --save behind {held!r}: {lines[:2]!r}")
 
 
-def through_links():
-    """OUT's links stay, and the file to which they lead is another then, with what was written."""
-    room = Room({"a": WHOLE, "to/file": b"what stood there"})
-    os.symlink("to/file", room.at("link"))
-    os.symlink("link", room.at("twice"))
-    os.symlink("nowhere", room.at("dangling"))
-    os.symlink("round", room.at("round"))
-    os.link(room.at("to/file"), room.at("second"))
-    for words, said in ((["carry", "a"], b"carried 3 halting 1\n"), (["mend", "a"], b"mended 3 dropped 0\n"), (["merge", "a", "a"], b"merged 3 open 0 holdouts 0\n")):
-        room.run([*words, "twice", "--replace"], 0, said, after={"to/file": WHOLE})
-        room.run([*words, "round"], 4, faults=b"refused 604\n")
-    room.run(["carry", "a", "dangling", "--replace"], 0, b"carried 3 halting 1\n", after={"nowhere": WHOLE})
-    if room.held()["second"] != b"what stood there":
-        sys.exit("losses: a second name of OUT's file was written to")
-
-
-def devices():
-    """A device is written over, as the commands do that end by `refused 604` where it is full."""
-    room = Room({"a": WHOLE, **PARTS})
-    for words, said in ((["carry", "a"], b"carried 3 halting 1\n"), (["mend", "a"], b"mended 3 dropped 0\n"), (["merge", "a", "a"], b"merged 3 open 0 holdouts 0\n"), (["join", "parts", "--ledger"], REPORT)):
-        room.run([*words, "/dev/null"], 0, said)
-        room.run([*words, "/dev/full"], 4, faults=b"refused 604\n")
-    for words in (["run", "1"], ["loop", "1"], ["coord", "1"]):
-        room.run([*words, "--ledger", "/dev/full"], 4, faults=b"refused 604\n", given=b"REC ------ H 1 1\n")
-
-
-def pipes():
-    """What is no plain file is read to its end where it is only read."""
-    room = Room({"a": WHOLE, **PARTS})
-    for name in (room.fed("fifo", WHOLE), "/dev/stdin"):
-        room.run(["report", name], 0, REPORT, given=WHOLE)
-    room.run(["report", "-"], 0, REPORT, given=WHOLE)
-    room.run(["carry", room.fed("fifo", WHOLE), "out"], 0, b"carried 3 halting 1\n", after={"out": WHOLE})
-    room.run(["mend", room.fed("fifo", SPOILT), "out", "--replace"], 1, b"mended 2 dropped 1\n", after={"out": HEADER + ROOT + RIGHT})
-    room.run(["mend", "/dev/stdin", "out", "--replace"], 0, b"mended 3 dropped 0\n", given=WHOLE, after={"out": WHOLE})
-    room.run(["merge", room.fed("fifo", TRUNK), "/dev/stdin", "out", "--replace"], 0, b"merged 3 open 0 holdouts 0\n", given=WHOLE)
-    room.run(["merge", "a", room.fed("fifo", WHOLE), "a", "--replace"], 0, b"merged 3 open 0 holdouts 0\n")
-    os.rename(room.at("parts/0RA---.ledger"), room.at("part"))
-    room.fed("parts/0RA---.ledger", PARTS["parts/0RA---.ledger"])
-    room.run(["join", "parts"], 0, REPORT)
-    shell = ["bash", "-c", f"{PROGRAM} report <(cat a) && {PROGRAM} page <(cat a) | grep -c '<html'"]
-    if shutil.which("bash"):
-        Room.tried += 2
-        ran = subprocess.run(shell, capture_output=True, cwd=room.folder, check=False)
-        if ran.stdout != REPORT + b"1\n":
-            sys.exit(f"losses: {shell}: {ran!r}")
-
-
-def cut_words(name):
-    """What is said of a ledger that is cut."""
-    return b"%s: %d bytes were cut off, and are kept in %s.cut\n" % (name.encode(), len(CUT), name.encode())
-
-
-def cuts():
-    """What is cut off a ledger is kept beside it, behind what was kept there before."""
-    for words, given, answers, after in (
-        (["run", "1", "--ledger", "a"], b"", REPORT, TRUNK + LEFT + RIGHT),
-        (["loop", "1", "--ledger", "a"], b"", REPORT, TRUNK + LEFT + RIGHT),
-        (["coord", "1", "--ledger", "a"], b"REC " + LEFT + b"REC " + RIGHT, b"ACK 0RA---\nACK 1RA---\n", TRUNK + LEFT + RIGHT),
-        (["settle", "a"], b"", b"settled 2 holdouts 0\n", TRUNK + LEFT + RIGHT),
-    ):
-        room = Room({"a": SPOILT})
-        room.run(words, 0, answers, cut_words("a"), given=given, after={"a": after, "a.cut": CUT})
-        room.write("a", SPOILT)
-        room.run([*words, "--why"], 0, answers, cut_words("a"), given=given, after={"a": after, "a.cut": CUT + CUT})
-        room.write("a", WHOLE[:-1])
-        room.run(words, 0, answers if words[0] != "settle" else b"settled 1 holdouts 0\n", given=given, after={"a": WHOLE})
-        room.run(["mend", "-", "b"], 1, b"mended 2 dropped 1\n", given=TRUNK + CUT, after={"b": HEADER + ROOT + RIGHT})
-    for link in (os.link, os.symlink):
-        room = Room({"a": SPOILT})
-        link(room.at("a"), room.at("a.cut"))
-        room.run(["settle", "a"], 4, faults=b"refused 604\n")
-    working = REPORT.replace(b"complete", b"working").replace(b"never 2", b"never 0").replace(b"open 0", b"open 2")
-    room = Room({"a": SPOILT})
-    room.run(["retry", "a"], 1, working, cut_words("a"), after={"a": TRUNK, "a.cut": CUT})
-    room = Room({"parts/trunk.ledger": SPOILT, "parts/1RA---.ledger": PARTS["parts/1RA---.ledger"]})
-    room.run(["split", "1", "parts", "--filled", "1"], 0, b"trunk 1 parts 2\n", cut_words("parts/trunk.ledger"), after={"parts/trunk.ledger": TRUNK, "parts/trunk.ledger.cut": CUT, "parts/0RA---.ledger": b"bb-ledger 2 0RA---\n"})
-    # given again it leaves the parts as they are
-    room.write("parts/0RA---.ledger", PARTS["parts/0RA---.ledger"])
-    room.run(["split", "1", "parts", "--filled", "1"], 0, b"trunk 1 parts 2\n")
-
-
-def without_leave():
-    """A folder that can't be written: what can't be kept isn't cut, and OUT is as it was."""
-    room = Room({"a": SPOILT, "b": WHOLE, "out": b"what stood there"})
-    as_nobody = {}
-    if os.geteuid() == 0:
-        as_nobody = {"user": NOBODY, "executable": room.at("bb")}
-        shutil.copy(PROGRAM, room.at("bb"))
-        for name in ("a", "b", "out"):
-            os.chown(room.at(name), NOBODY, NOBODY)
-    os.chmod(room.folder, 0o555)
-    try:
-        subprocess.run(["true"], check=True, **{**as_nobody, "executable": None})
-    except PermissionError:
-        print("losses: nobody else can be here, and a folder that can't be written wasn't tried")
-        return
-    for words in (["run", "1", "--ledger", "a"], ["loop", "1", "--ledger", "a"], ["coord", "1", "--ledger", "a"], ["settle", "a"], ["retry", "a"]):
-        room.run(words, 4, faults=b"refused 604\n", given=b"REC " + LEFT, **as_nobody)
-    for words in (["merge", "b", "b", "out"], ["carry", "b", "out"], ["mend", "a", "out"], ["mend", "a", "a"]):
-        room.run([*words, "--replace"], 4, faults=b"refused 604\n", **as_nobody)
-    os.chmod(room.folder, 0o755)
-
-
-def told_at_terminal(room, words, before=()):
-    """What a terminal shows where standard error is one; `before` are words that come before the program."""
-    Room.tried += 1
-    reader, writer = pty.openpty()
-    ran = subprocess.run([*before, PROGRAM, *words], stdin=subprocess.DEVNULL, stdout=subprocess.PIPE, stderr=writer, cwd=room.folder, check=False)
-    os.close(writer)
-    told = b""
-    try:
-        while piece := os.read(reader, 4096):
-            told += piece
-    except OSError:
-        pass
-    os.close(reader)
-    return ran, told.replace(b"\r\n", b"\n")
-
-
 def lines_of_their_own():
     """On a terminal that shows both streams a report isn't glued to the line that tells how far the reading is."""
     packed = os.path.join(TOP, "examples", "four-states.ledger.xz")
@@ -360,57 +195,48 @@ def lines_of_their_own():
         sys.exit(f"losses: report at a terminal: {shown!r}")
 
 
-def reasons():
-    """It is said which file failed and why, at a terminal and elsewhere."""
-    try:
-        for end in pty.openpty():
-            os.close(end)
-    except OSError:
-        print("losses: there is no pseudo-terminal here, and what a terminal is told wasn't tried")
-        return
-    room = Room({"a": SPOILT, "b": WHOLE, "c": SPOILT})
-    os.symlink("round", room.at("round"))
-    os.link(room.at("c"), room.at("c.cut"))
-    for words, told in (
-        (["merge", "b", "absent", "c"], b"refused 605\nabsent: No such file or directory (os error 2)\n"),
-        (["report", "absent"], b"refused 605\nabsent: No such file or directory (os error 2)\n"),
-        (["join", "absent"], b"refused 605\nabsent/trunk.ledger: No such file or directory (os error 2)\n"),
-        (["run", "1", "--ledger", "/dev/full"], b"refused 604\n/dev/full: No space left on device (os error 28)\n"),
-        (["carry", "b", "no/folder"], b"refused 604\nno/folder.new: No such file or directory (os error 2)\n"),
-        (["run", "1", "--ledger", "no/folder"], b"refused 604\nno/folder: No such file or directory (os error 2)\n"),
-        (["retry", "."], b"refused 604\n.: Is a directory (os error 21)\n.: it is a folder: bb join . --ledger NEW writes one ledger of it\n"),
-        (["retry", "c"], b"refused 604\nc.cut: invalid input parameter\n"),
-    ):
-        ran, shown = told_at_terminal(room, words)
-        if shown != told or ran.returncode != 4 or ran.stdout != b"":
-            sys.exit(f"losses: {words} at a terminal: {shown!r}, {ran!r}, and not {told!r}")
-        room.run(words, 4, faults=told)
-    with open(room.at("b"), "ab") as held:
-        fcntl.flock(held, fcntl.LOCK_EX)
-        for words in (["retry", "b"], ["coord", "1", "--ledger", "b"], ["mend", "a", "b"]):
-            ran, shown = told_at_terminal(room, words)
-            if shown != b"refused 606: another process writes the ledger\nb: resource busy\n" or ran.returncode != 4:
-                sys.exit(f"losses: {words} at a terminal: {shown!r}, {ran!r}")
-            room.run(words, 4, faults=b"refused 606: another process writes the ledger\n")
-    ran, shown = told_at_terminal(room, ["settle", "a"])
-    if ran.stdout != b"settled 2 holdouts 0\n" or b"a.cut" not in shown or str(len(CUT)).encode() not in shown or shown.count(b"\n") != 1:
-        sys.exit(f"losses: settle at a terminal: {shown!r}, {ran!r}")
+def pipes():
+    """What is no plain file is read to its end where it is only read."""
+    room = Room({"a": WHOLE, **PARTS})
+    for name in (room.fed("fifo", WHOLE), "/dev/stdin"):
+        room.run(["report", name], 0, REPORT, given=WHOLE)
+    room.run(["report", "-"], 0, REPORT, given=WHOLE)
+    room.run(["carry", room.fed("fifo", WHOLE), "out"], 0, b"carried 3 halting 1\n", after={"out": WHOLE})
+    room.run(["mend", room.fed("fifo", SPOILT), "out"], 1, b"mended 2 dropped 1\n", after={"out": HEADER + ROOT + RIGHT})
+    room.run(["mend", "/dev/stdin", "out"], 0, b"mended 3 dropped 0\n", given=WHOLE, after={"out": WHOLE})
+    room.run(["merge", room.fed("fifo", TRUNK), "/dev/stdin", "out"], 0, b"merged 3 open 0 holdouts 0\n", given=WHOLE)
+    room.run(["merge", "a", room.fed("fifo", WHOLE), "a"], 0, b"merged 3 open 0 holdouts 0\n")
+    os.rename(room.at("parts/0RA---.ledger"), room.at("part"))
+    room.fed("parts/0RA---.ledger", PARTS["parts/0RA---.ledger"])
+    room.run(["join", "parts"], 0, REPORT)
+    shell = ["bash", "-c", f"{PROGRAM} report <(cat a) && {PROGRAM} page <(cat a) | grep -c '<html'"]
+    if shutil.which("bash"):
+        Room.tried += 2
+        ran = subprocess.run(shell, capture_output=True, cwd=room.folder, check=False)
+        if ran.stdout != REPORT + b"1\n":
+            sys.exit(f"losses: {shell}: {ran!r}")
 
 
-def without_network():
-    """A terminal is told that a link couldn't be made, and not of the ledger."""
-    alone = ("unshare", "-n")
+def without_leave():
+    """A folder that can't be written: what can't be kept isn't cut, and OUT is as it was."""
+    room = Room({"a": SPOILT, "b": WHOLE, "out": b"what stood there"})
+    as_nobody = {}
+    if os.geteuid() == 0:
+        as_nobody = {"user": NOBODY, "executable": room.at("bb")}
+        shutil.copy(PROGRAM, room.at("bb"))
+        for name in ("a", "b", "out"):
+            os.chown(room.at(name), NOBODY, NOBODY)
+    os.chmod(room.folder, 0o555)
     try:
-        subprocess.run([*alone, "true"], capture_output=True, check=True)
-        for end in pty.openpty():
-            os.close(end)
-    except (OSError, subprocess.CalledProcessError):
-        print("losses: there is no network to be without here, or no pseudo-terminal, and that wasn't tried")
+        subprocess.run(["true"], check=True, **{**as_nobody, "executable": None})
+    except PermissionError:
+        print("losses: nobody else can be here, and a folder that can't be written wasn't tried")
         return
-    for words in (["loop", "1"], ["loop", "1", "--ledger", "new"]):
-        ran, shown = told_at_terminal(Room({}), words, alone)
-        if not shown.startswith(b"refused 603\n127.0.0.1: ") or shown.count(b"\n") != 2 or ran.returncode != 4:
-            sys.exit(f"losses: {words} without a network: {shown!r}, {ran!r}")
+    for words in (["run", "1", "--ledger", "a"], ["loop", "1", "--ledger", "a"], ["coord", "1", "--ledger", "a"], ["settle", "a"], ["retry", "a"]):
+        room.run(words, 4, faults=b"refused 604\n", given=b"REC " + LEFT, **as_nobody)
+    for words in (["merge", "b", "b", "out"], ["carry", "b", "out"], ["mend", "a", "out"], ["mend", "a", "a"]):
+        room.run(words, 4, faults=b"refused 604\n", **as_nobody)
+    os.chmod(room.folder, 0o755)
 
 
 def nodes(room):
@@ -512,7 +338,7 @@ def by_links():
 
 
 def main():
-    for play in (over_what_is_read, beside_out, unless_replaced, half_lines, through_links, devices, pipes, cuts, without_leave, lines_of_their_own, reasons, without_network, places_to_listen, by_links):
+    for play in (unless_replaced, half_lines, lines_of_their_own, pipes, without_leave, places_to_listen, by_links):
         play()
     for folder in Room.folders:
         shutil.rmtree(folder, ignore_errors=True)

@@ -14,7 +14,7 @@ import tempfile
 
 from faults import Refused
 from oracle import number, printed, read_table
-from records import PROGRAM, damaged, none_differs
+from kinds import PROGRAM, damaged, none_differs
 from tree import Board, HEADER, in_version
 
 MOST_LEASES = 4_096

@@ -12,9 +12,8 @@ import shutil
 import subprocess
 import sys
 
-from parts import filled, joined, lay  # bench/, which has another `parts`, is looked in once `records` is read
-from ledgers import damage, play, whole
-from records import PROGRAM
+from damaged import damage, filled, joined, lay, play, whole
+from kinds import PROGRAM
 from tree import Loaded
 
 LETTERS = "HCTBNFAWRPU"
@@ -56,7 +55,7 @@ def expected(board, left, origin):
     kinds = [line.split(b" ")[1].decode() for line in board.lines]
     rows += [(letter, str(kinds.count(letter))) for letter in LETTERS if letter in kinds]
     entries = [filled(line.split(b" ")[0]) for line in board.lines]
-    rows += [(str(k), str(entries.count(k))) for k in range(2 * len(board.root) + 1) if entries]
+    rows += [(str(k), str(entries.count(k))) for k in range(2 * len(board.root) + 1) if k in entries]
     return texts, rows, of("champion"), of("ones_champion"), of("holdout")
 
 
@@ -145,7 +144,7 @@ def compare_ledger(rng, lines, path, counts):
         counts["a ledger: refused"] += 1
         return None if (page, said, status) == ("", ledger.fault, 1) else f"page of {text!r}: {said!r}, {status}"
     origin = ("SHA-256 of the ledger", f"<code>{sum_of(path)}</code>")
-    wrong = differs(page, ledger.board, ledger.left, path, origin)
+    wrong = differs(page, ledger.board, ledger.left, os.path.basename(path), origin)
     complete = "\nstatus complete\n" in ledger.board.report(None)
     counts["a ledger: " + ("complete" if complete else "not complete")] += 1
     if wrong is None and (said, status) != ("", 0 if complete and ledger.left is None else 1):
@@ -165,12 +164,12 @@ def compare_folder(rng, lines, folder, counts):
     complete = "\nstatus complete\n" in board.report(None)
     counts["a folder: " + ("complete" if complete else "not complete")] += 1
     origin = ("SHA-256 of the list of its ledgers", f"<code>{list_sum(folder, Loaded(texts['trunk']).board.open)}</code>")
-    wrong = differs(page, board, None, folder, origin)
+    wrong = differs(page, board, None, os.path.basename(folder), origin)
     if wrong is None and (told, status) != (said, 0 if said == "" and complete else 1):
         wrong = f"{told!r}, {status}"
     out = folder + ".out"
     subprocess.run([PROGRAM, "join", folder, "--ledger", out], capture_output=True, check=False)
-    if wrong is None and SUMS.sub("", page_of(out)[0].replace(out, folder)) != SUMS.sub("", page):
+    if wrong is None and SUMS.sub("", page_of(out)[0].replace(os.path.basename(out), os.path.basename(folder))) != SUMS.sub("", page):
         wrong = "not that of the one ledger"
     return None if wrong is None else f"page of {texts!r}: {wrong}"
 
@@ -187,7 +186,7 @@ def main():
             shutil.rmtree(parts, ignore_errors=True)
         return wrong
 
-    return play("pages", 300, once)
+    return play("pages", sys.argv[1:], 300, once)
 
 
 if __name__ == "__main__":

@@ -14,7 +14,7 @@ of `calls.rows` again where they are refused: all rows are kept, whichever one r
 Both are a part of `./ci`.
 
 Prints how many requests each met, and ends with 1 at the first that ends otherwise. Needs a C compiler (`cc`), for
-refused.c.
+shim.c.
 """
 import collections
 import os
@@ -270,7 +270,7 @@ def try_calls(shim):
 def main():
     with tempfile.TemporaryDirectory() as top:
         shim = os.path.join(top, "refused.so")
-        subprocess.run(["cc", "-O1", "-shared", "-fPIC", "-o", shim, os.path.join(TOP, "stress", "refused.c"), "-ldl"], check=True)
+        subprocess.run(["cc", "-O1", "-shared", "-fPIC", "-o", shim, os.path.join(TOP, "stress", "shim.c"), "-ldl"], check=True)
         if sys.argv[1:] == ["--calls"]:
             return try_calls(shim)
         total = 0

@@ -15,7 +15,7 @@ import sys
 from nodes import Coordinator, frame, records_of
 from faults import Refused
 from oracle import number, printed, read_table
-from records import damaged, none_differs
+from kinds import damaged, none_differs
 from tree import Board, HEADER, is_in_order
 
 TOP = os.path.dirname(os.path.dirname(os.path.abspath(__file__)))

@@ -111,6 +111,8 @@ def line_of(dice, tables):
 
 
 def main():
+    if sys.argv[1:] in ([], ["--help"]):
+        sys.exit(__doc__.strip())
     program = sys.argv[1]
     dice = random.Random(int(sys.argv[2]) if len(sys.argv) > 2 else 1)
     tables = [some_table(dice) for _ in range(400)]

@@ -3,10 +3,9 @@
 
 README's first steps (packaging/first_steps); the help of each command that README's table has, long and short; a list as people
 keep it, with CR LF, comments, CSV, links, blank and doubled lines, through `bb tables`, `bb decide --hard` and `bb check`, each
-of its lines accounted for; a list by several processes; what can't be read, is compressed or was cut, which is named, at a
-terminal and elsewhere; tables and records as arguments and in files, and why a line is refused; a worker whose coordinator
+of its lines accounted for; a list by several processes; what is compressed or was cut, which is named; tables and records as arguments and in files, and why a line is refused; a worker whose coordinator
 isn't there, and a coordinator and workers of which some are killed, or too many come; how far a command is; answers of which
-only the beginning is read; wrong command lines; a file given where lines are read, and lines where a file is; trees in parts by
+only the beginning is read; a file given where lines are read, and lines where a file is; trees in parts by
 the scripts of contrib/, from another folder, with too little disk, with a part that can't be settled, as they are packaged, and
 beside the judge in Coq that README names; what bash completes, and the Debian package, which are made of the kept program where
 bash and dpkg-deb are there. What has to come is from README, docs/FORMATS.md, docs/TOUR.md and docs/FIVE.md. Prints what
@@ -66,53 +65,6 @@ VERDICTS = {
     "1RB1LC_1RC1RB_1RD0LE_1LA1LD_---0LA": "halts 47176870 ones 4098",
 }
 
-# Command lines that are wrong, and what has to stand in what is said of each.
-WRONG = [
-    ("", "Usage:"),
-    ("chek", "'check'"),
-    ("--verbose", "--verbose"),
-    ("run", "<N>"),
-    ("run three", "three"),
-    ("run 0", "1..=7"),
-    ("run 8", "1..=7"),
-    ("run 3 4", "4"),
-    ("run 3 --ledger", "--ledger"),
-    ("run 3 --sync", "--ledger"),
-    ("run 3 --hard --far 3", "--far"),
-    ("run three.ledger", "--ledger"),
-    ("coord 3 --json", "--listen"),
-    ("coord 3 --progress", "--listen"),
-    ("coord 3 --token token", "--listen"),
-    ("coord 3 --accept-holdouts", "--listen"),
-    ("coord 3 --listen 0.0.0.0:7007", "refused 607"),
-    ("coord 3 --listen 7007 --token token --open", "--open"),
-    ("work --token token", "--connect"),
-    ("work --ids 65", "1..=64"),
-    ("work --id 4294967233", "0..=4294967232"),
-    ("work --tries 0", "1..=1000000"),
-    ("run 3 --far 17", "0..=16"),
-    ("decide --steps 1e9", "1..=100000000"),
-    ("decide --steps 1__000", "1__000"),
-    ("decide --input tables.txt 1RB---", "--input"),
-    ("decide tables.txt", "--input"),
-    ("decide --steps 1,000", "1,000"),
-    ("decide --known -", "--known"),
-    ("decide --gram 9", "0..=8"),
-    ("decide --run 0", "1..=10000000000"),
-    ("decide --keep --json", "--json"),
-    ("explain --dot --json", "--json"),
-    ("explain --json --run 5", "--run"),
-    ("explain --dot --run 5", "--run"),
-    ("show --align --fold", "--fold"),
-    ("draw --rows 0", "1..=10000"),
-    ("draw --png --height 9", "--height"),
-    ("split two 3", "two"),
-    ("split 2 two --filled 15", "0..=14"),
-    ("merge a b", "<OUT>"),
-    ("join - --ledger one", "--ledger"),
-    ("report a b", "b"),
-    ("look", "<PATH>"),
-]
 # Commands that read lines, and those that read a ledger.
 OF_LINES = ["check", "decide", "explain", "show", "tables", "draw"]
 OF_LEDGERS = ["report", "page", "retry", "settle", "look", "mend"]
@@ -259,15 +211,6 @@ def beginnings(tries):
         tries.expect(faults in ("", "refused 603\nstandard output: Broken pipe (os error 32)\n") or faults.startswith("passed over: "), f"{command} | head -n 1: {faults!r}")
 
 
-def wrong_lines(tries):
-    for words, told in WRONG:
-        status, said, faults = tries.run(f"bb {words}")
-        tries.expect((status, said) == (2, ""), f"bb {words}: {status}, {said!r}")
-        tries.expect(told in faults, f"bb {words}: says nothing of {told}: {faults!r}")
-    left = os.listdir(tries.here)
-    tries.expect(left == [], f"wrong command lines leave {left}")
-
-
 def mixed_up(tries):
     """A file where lines are read, and lines where a file is."""
     tries.write("tables.txt", "1RB1LB_1LA---\n")
@@ -281,19 +224,6 @@ def mixed_up(tries):
         tries.expect(re.search(r"<(FILE|PATH|IN)>", faults), f"bb {name} < FILE: doesn't say that a file is to be named: {faults!r}")
 
 
-# What is said of what can't be read or is cut: the file's name and the reason, wherever standard error goes.
-NAMED = [
-    ("bb report nosuch", 4, "refused 605\nnosuch: No such file or directory (os error 2)\n"),
-    ("bb look nosuch < tables.txt", 4, "refused 605\nnosuch: No such file or directory (os error 2)\n"),
-    ("bb page nosuch", 4, "refused 605\nnosuch: No such file or directory (os error 2)\n"),
-    ("bb settle nosuch --far 3", 4, "refused 604\nnosuch: No such file or directory (os error 2)\n"),
-    ("bb retry nosuch", 4, "refused 604\nnosuch: No such file or directory (os error 2)\n"),
-    ("bb mend nosuch new", 4, "refused 605\nnosuch: No such file or directory (os error 2)\n"),
-    ("bb join nosuch", 4, "refused 605\nnosuch/trunk.ledger: No such file or directory (os error 2)\n"),
-    ("bb decide --known nosuch < tables.txt", 4, "refused 605\nnosuch: No such file or directory (os error 2)\n"),
-    ("bb decide < tables.txt > /dev/full", 4, "refused 603\nstandard output: No space left on device (os error 28)\n"),
-    ("bb report folder", 4, "refused 605\nfolder: Is a directory (os error 21)\nfolder: it is a folder: bb join folder\n"),
-]
 # What the specification leaves no room for comes with --why, and at a terminal.
 ASKED = [
     ("bb report packed.xz", "packed.xz: it is compressed by xz: xz -dc packed.xz | bb report -\n"),
@@ -313,11 +243,6 @@ def named(tries):
     with open(os.path.join(tries.here, "packed.xz"), "wb") as file:
         file.write(b"\xfd7zXZ\0" + b"\0" * 26)
     os.mkdir(os.path.join(tries.here, "folder"))
-    for command, wanted, told in NAMED:
-        status, _, faults = tries.run(command)
-        tries.expect((status, faults) == (wanted, told), f"{command}: {status}, {faults!r}")
-        ended, _, shown = tries.at_terminal(command)
-        tries.expect((ended, shown) == (wanted, told), f"{command} at a terminal: {ended}, {shown!r}")
     for command, told in ASKED:
         _, said, faults = tries.run(command)
         tries.expect(told not in faults, f"{command}: says more than it may: {faults!r}")
@@ -551,7 +476,6 @@ def main():
     with tempfile.TemporaryDirectory(prefix="bb-user-") as folder:
         tries = Tries(program, folder)
         first_steps(tries)
-        wrong_lines(tries)
         helps(tries)
         lists(tries)
         by_several(tries)

@@ -1,35 +1,26 @@
-//! Runs the cases of its folder: command lines as a user types them, with what a command finds in place of the system, and
-//! what has to come of each. A test is a row of text; the head of `data/check.case` says what rows there are.
-//!
-//! Each command begins where `main` of `bb` does, at `obey`.
+//! Keeps the rows of `data/`: commands over given streams and files in memory, by the functions that other programs call, and
+//! what words ask for. A row is a case as `stress/cases.py` says it, of which a few lines are read here: files, commands,
+//! standard input, both outputs, the exit status and what the words ask for. `stress/cases.py` plays the same rows, and all
+//! others, with the built program.
 #![tactic(auto)]
 
-mod carrying;
-mod comparing;
-mod failing;
-mod folder;
+mod commands;
+mod mem_files;
 mod playing;
-mod stepping;
-mod trial;
+mod row;
 
-use folder::data_files;
-use playing::play_file;
-use std::io;
+use playing::Playing;
 use std::process::ExitCode;
+use std::{fs, io};
 
 fn main(rt: HostRuntime) -> io::Result<ExitCode> {
-    let files = data_files(&rt)?;
-    let mut count: usize = 0;
-    let mut held: usize = 0;
-    for file in &files {
-        if file.name.ends_with(".case") {
-            count = count.saturating_add(1);
-            if play_file(rt.alloc(), &files, file, &mut rt.stdout())? {
-                held = held.saturating_add(1);
-            }
-        }
+    let mut is_kept = true;
+    for name in ["rows.case", "asked.case"] {
+        let text = fs::read_to_string(&rt, name)?;
+        let mut playing = Playing::new(rt.alloc(), name);
+        is_kept &= playing.play(&text, &mut rt.stdout())?;
     }
-    Ok(if count > 0 && held == count {
+    Ok(if is_kept {
         ExitCode::SUCCESS
     } else {
         ExitCode::FAILURE

@@ -1,165 +1,147 @@
-// The cases of a text, played one after the other.
-use crate::comparing::Difference;
-use crate::folder::{DataFile, data_of};
-use crate::stepping::{Played, Scene};
-use crate::trial::Trial;
-use std::alloc::Global;
-use std::io::{self, ErrorKind, Write};
-use try_host::{Case, CaseFault, Expected, FileText, MemDisk, cases_of};
+// The rows of a file, one after another.
+use crate::commands::{Streams, done};
+use crate::mem_files::MemFiles;
+use crate::row::Row;
+use cmd_options::{Ended, Options, Outcome};
+use cmd_words::{LineFault, options};
+use std::alloc::{AllocError as NoMemory, Global};
+use std::io::{self, Write};
 
-/// Plays the cases of a file over the data of its folder. Says how many hold, and of each other what is different; answers
-/// whether all hold.
-pub fn play_file<W: Write>(
-    alloc: Global,
-    data: &[DataFile],
-    file: &DataFile,
-    out: &mut W,
-) -> io::Result<bool> {
-    let name = file.name.as_str();
-    let Ok(text) = str::from_utf8(&file.bytes) else {
-        return Err(io::Error::from(ErrorKind::InvalidData));
-    };
-    let cases = match cases_of(alloc, text) {
-        Ok(cases) => cases,
-        Err(CaseFault::NoMemory) => return Err(io::Error::from(ErrorKind::OutOfMemory)),
-        Err(CaseFault::Line(line)) => {
-            writeln!(out, "{name}:{line}: no line of a case")?;
-            return Ok(false);
-        }
-    };
-    let mut held: usize = 0;
-    for case in &cases {
-        if play_case(alloc, data, name, case, out)? {
-            held = held.saturating_add(1);
-        }
-    }
-    let count = cases.len();
-    writeln!(out, "{name}: {held} of {count} cases hold")?;
-    Ok(held == count && count > 0)
-}
-
-// A case whose step fails: the step's line, what was tried, and what is different.
+/// The rows of a file while they are played.
 #[derive(Drop)]
-struct Failed {
-    line: usize,
-    trial: Trial,
-    difference: Difference,
+pub struct Playing<'a> {
+    alloc: Global,
+    name: &'a str,
+    files: MemFiles,
+    // the command whose lines are read; before the first, the files of a case
+    row: Row,
+    commands: usize,
+    differing: usize,
 }
 
-// Plays a case as often as there are places in which something goes wrong. A case without a step shows nothing.
-fn play_case<W: Write>(
-    alloc: Global,
-    data: &[DataFile],
-    name: &str,
-    case: &Case,
-    out: &mut W,
-) -> io::Result<bool> {
-    if case.steps.is_empty() {
-        let line = case.line;
-        writeln!(out, "{name}:{line}: a case without a command")?;
-        return Ok(false);
+impl<'a> Playing<'a> {
+    pub fn new(alloc: Global, name: &'a str) -> Playing<'a> {
+        Playing {
+            alloc,
+            name,
+            files: MemFiles::new(alloc),
+            row: Row::new(alloc),
+            commands: 0,
+            differing: 0,
+        }
     }
-    let mut trial = Trial::first(case);
-    // What is to go wrong goes wrong at least once.
-    let mut is_shown = trial == Trial::Plain;
-    for _ in 0..u64::MAX {
-        match play_once(alloc, data, case, trial)? {
-            Ok(true) => {
-                trial = trial.next();
-                is_shown = true;
-            }
-            Ok(false) => break,
-            Err(failed) => {
-                tell(out, name, case, &failed)?;
+
+    /// Plays the rows of a text, and says how many commands there were and which differ; whether all are as they should be.
+    pub fn play<W: Write>(&mut self, text: &str, out: &mut W) -> io::Result<bool> {
+        for (place, line) in text.lines().enumerate() {
+            let number = place.saturating_add(1);
+            if !self.take(line, number, out)? {
+                writeln!(out, "{}:{number}: no line of a row", self.name)?;
                 return Ok(false);
             }
         }
+        self.end(0, out)?;
+        let (name, commands, differing) = (self.name, self.commands, self.differing);
+        writeln!(
+            out,
+            "{name}: {commands} commands, {differing} of them differ"
+        )?;
+        Ok(differing == 0 && commands > 0)
     }
-    if !is_shown {
-        let line = case.line;
-        writeln!(out, "{name}:{line}: nothing went wrong")?;
-    }
-    Ok(is_shown)
-}
 
-// Plays the steps of a case; whether something went wrong, or the step that differs.
-fn play_once(
-    alloc: Global,
-    data: &[DataFile],
-    case: &Case,
-    trial: Trial,
-) -> io::Result<Result<bool, Failed>> {
-    let disk = laid_out(alloc, data, &case.files)?;
-    let mut scene = Scene::new(alloc, data, disk);
-    let mut has_failed = false;
-    for step in &case.steps {
-        let trial = if step.conditions.variant.is_some() {
-            trial
-        } else {
-            Trial::Plain
+    // Takes a line; whether it is one of a row.
+    fn take<W: Write>(&mut self, line: &str, number: usize, out: &mut W) -> io::Result<bool> {
+        let (mark, text) = line.split_once(' ').unwrap_or((line, ""));
+        match mark {
+            "" | "#" => Ok(true),
+            "case" => {
+                self.end(number, out)?;
+                self.files = MemFiles::new(self.alloc);
+                Ok(true)
+            }
+            "$" => {
+                self.end(number, out)?;
+                self.row.words.push_str(text)?;
+                Ok(true)
+            }
+            _ => Ok(self.row.take(mark, text)?),
+        }
+    }
+
+    // Plays the command that was read, before the line of a number; the files of a case are laid out.
+    fn end<W: Write>(&mut self, number: usize, out: &mut W) -> io::Result<()> {
+        let row = std::mem::replace(&mut self.row, Row::new(self.alloc));
+        if row.words.is_empty() {
+            for file in &row.files {
+                self.files.put_text(&file.path, &file.text)?;
+            }
+            return Ok(());
+        }
+        self.commands = self.commands.saturating_add(1);
+        if let Some(what) = self.differs(&row)? {
+            self.differing = self.differing.saturating_add(1);
+            writeln!(
+                out,
+                "{}:{number}: {} differs before this line",
+                self.name, what
+            )?;
+        }
+        Ok(())
+    }
+
+    // What of a command is otherwise than its row says.
+    fn differs(&mut self, row: &Row) -> Result<Option<&'static str>, NoMemory> {
+        let mut words = Vec::new(self.alloc);
+        for word in row.words.split(' ') {
+            words.push(word)?;
+        }
+        let asked = options(self.alloc, &words);
+        if let Some(wanted) = &row.asked {
+            let found = asked_text(self.alloc, &asked)?;
+            return Ok((found.as_str() != wanted.as_str()).then_some("what is asked for"));
+        }
+        let mut streams = Streams {
+            input: &row.input,
+            answers: Vec::new(self.alloc),
+            faults: Vec::new(self.alloc),
         };
-        let Played {
-            difference,
-            was_met,
-        } = scene.play(step, trial)?;
-        if let Some(difference) = difference {
-            let line = step.line;
-            return Ok(Err(Failed {
-                line,
-                trial,
-                difference,
-            }));
-        }
-        has_failed |= was_met;
-        // What comes behind it stands on what wasn't said, or on another file.
-        if was_met && matches!(trial, Trial::Unsaid | Trial::Bit(_) | Trial::Cut(_)) {
-            break;
-        }
-    }
-    Ok(Ok(has_failed))
-}
-
-// The files before the first step.
-fn laid_out(alloc: Global, data: &[DataFile], files: &[FileText]) -> io::Result<MemDisk> {
-    let mut disk = MemDisk::new(alloc);
-    for file in files {
-        let path = file.path.as_str();
-        let is_laid = match &file.said {
-            Expected::Bytes(bytes) => {
-                disk.put(path, bytes.as_slice().to_vec(alloc)?)?;
-                true
-            }
-            Expected::Link(to) => {
-                disk.link(path, to)?;
-                true
-            }
-            Expected::Data(name) => {
-                disk.put(path, data_of(data, name)?.to_vec(alloc)?)?;
-                true
-            }
-            Expected::Name(of) => disk.add(path, of)?,
-            _ => false,
+        let ended = match &asked {
+            Ok(asked) => done(self.alloc, asked, &mut self.files, &mut streams),
+            Err(_) => Ok(None),
         };
-        if !is_laid {
-            return Err(io::Error::from(ErrorKind::InvalidData));
-        }
+        Ok(self.compared(row, ended, &streams))
     }
-    Ok(disk)
+
+    fn compared(
+        &self,
+        row: &Row,
+        ended: Result<Option<Outcome>, Ended>,
+        streams: &Streams<'_>,
+    ) -> Option<&'static str> {
+        match ended {
+            Ok(Some(outcome)) if outcome.status() == row.status => {}
+            _ => return Some("the exit status"),
+        }
+        if streams.answers != row.answers {
+            return Some("standard output");
+        }
+        if streams.faults != row.faults {
+            return Some("standard error");
+        }
+        for file in &row.files {
+            if self.files.text_at(&file.path) != Some(file.text.as_slice()) {
+                return Some("a file");
+            }
+        }
+        None
+    }
 }
 
-fn tell<W: Write>(out: &mut W, name: &str, case: &Case, failed: &Failed) -> io::Result<()> {
-    let Failed {
-        line,
-        trial,
-        difference,
-    } = failed;
-    writeln!(
-        out,
-        "{name}:{line}: {} ({trial:?}): {} differs",
-        case.name, difference.name
-    )?;
-    writeln!(out, "wanted:")?;
-    out.write_all(&difference.wanted)?;
-    writeln!(out, "found:")?;
-    out.write_all(&difference.found)
+// What words ask for, or what they are refused for.
+fn asked_text(alloc: Global, asked: &Result<Options<'_>, LineFault>) -> Result<String, NoMemory> {
+    match asked {
+        Ok(asked) => format!(in alloc; "{asked:?}"),
+        Err(LineFault::PathForNumber(_)) => "a path where a number belongs".to_string(alloc),
+        Err(_) => "nothing".to_string(alloc),
+    }
 }

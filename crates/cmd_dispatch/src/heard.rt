@@ -20,7 +20,7 @@ pub(crate) struct Heard<'a, 'b, 'c, R, E> {
 }
 
 impl<'a, 'b, 'c, R: Read, E: Write> Heard<'a, 'b, 'c, R, E> {
-    // That of a command. Of lines it is said why they are refused where that is asked for; that a second table isn't drawn is said
+    // The input of a command. Of lines it is said why they are refused where that is asked for; that a second table isn't drawn is said
     // in any case.
     pub fn of(
         alloc: Global,
@@ -43,7 +43,7 @@ impl<'a, 'b, 'c, R: Read, E: Write> Heard<'a, 'b, 'c, R, E> {
         }
     }
 
-    // Its first bytes.
+    // The first bytes of the input.
     pub fn beginning(&self) -> &[u8] {
         self.beginning.bytes()
     }

@@ -54,7 +54,17 @@ pub(crate) fn reason_of<D: Disk>(
             Some(text) => of_root(alloc, text, walking.states),
             None => Ok(None),
         },
-        _ => Ok(None),
+        Options::Check(_)
+        | Options::Decide(_)
+        | Options::Explain(_)
+        | Options::Show(_)
+        | Options::Tables(_)
+        | Options::Coord { .. }
+        | Options::Work(_)
+        | Options::Run { .. }
+        | Options::Loop { .. }
+        | Options::Join(_)
+        | Options::Draw(_) => Ok(None),
     }
 }
 

@@ -86,7 +86,7 @@ impl FirstBytes {
         self.bytes.is_full()
     }
 
-    /// They themselves.
+    /// The bytes.
     pub fn bytes(&self) -> &[u8] {
         &self.bytes
     }

@@ -150,7 +150,7 @@ def helps(tries):
             wide.add(line)
             tries.expect(False, f"bb {words}: {len(line)} columns: {line!r}")
     status, said, faults = tries.run("bb --version")
-    tries.expect(status == 0 and faults == "" and re.fullmatch(r"bb \d+\.\d+\.\d+, .*\n", said), f"bb --version: {status} {said!r} {faults!r}")
+    tries.expect(status == 0 and faults == "" and re.fullmatch(r"bb \d+\.\d+\.\d+, .*\nsources [0-9a-f]{12}\n", said), f"bb --version: {status} {said!r} {faults!r}")
 
 
 def lists(tries):
@@ -363,10 +363,10 @@ def progress(tries):
         return
     ledger = os.path.join(TOP, "examples", "four-states.ledger.xz")
     tries.run(f"mkdir big && xz -dc {ledger} > big/trunk.ledger")
-    for command in ("bb report big/trunk.ledger", "bb join big"):
+    for command in ("bb report big/trunk.ledger", "bb join big", "bb carry big/trunk.ledger new", "bb mend big/trunk.ledger newer", "bb look big", "bb page big/trunk.ledger"):
         status, _, faults = tries.run(f"{command} --progress > reported & p=$!; sleep 0.2; kill -STOP $p; sleep 1.2; kill -CONT $p; wait $p")
-        tries.expect(status == 0 and re.search(r"^\d+\.\d% of \d+ bytes read", faults), f"{command} --progress: {status}, {faults!r}")
-    tries.run("rm -r big reported")
+        tries.expect(status == 0 and re.search(r"^0:00:\d\d \d+\.\d% of \d+ bytes read", faults), f"{command} --progress: {status}, {faults!r}")
+    tries.run("rm -r big reported new newer")
 
 
 # What `bb join` has to say of two states.

@@ -122,16 +122,15 @@ fn of_two<D: Disk>(
         return Ok(said);
     }
     let (other, said) = of_path(alloc, disk, second)?;
-    match (one, other) {
-        (Some(one), Some(other)) if one != other => {
-            let (one, other) = (text_of(alloc, &one)?, text_of(alloc, &other)?);
-            let said = format!(in alloc;
-                "{second}: its root is {other}, and that of {first} is {one}\n"
-            )?;
-            Ok(Some(said))
-        }
-        _ => Ok(said),
+    let (Some(one), Some(other)) = (one, other) else {
+        return Ok(said);
+    };
+    if one == other {
+        return Ok(said);
     }
+    let (one, other) = (text_of(alloc, &one)?, text_of(alloc, &other)?);
+    let said = format!(in alloc; "{second}: its root is {other}, and that of {first} is {one}\n")?;
+    Ok(Some(said))
 }
 
 // Of a table below which a tree of so many states is walked.

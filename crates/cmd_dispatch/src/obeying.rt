@@ -127,7 +127,7 @@ pub(crate) fn obeyed<
     if !heard.has_no_lines() {
         tell_reason(system, outcome, &shared);
     }
-    tell_refused(alloc, line, system, outcome, heard.beginning(), &shared);
+    tell_refused(alloc, line, system, heard.beginning(), &shared);
     let oddity = heard.oddity();
     tell_oddities(alloc, line, system, outcome, oddity, &shared);
     outcome
@@ -197,12 +197,11 @@ fn tell_refused<S: Disk, E: Write>(
     alloc: Global,
     line: &CommandLine<'_>,
     system: &S,
-    outcome: Outcome,
     of_input: &[u8],
     faults: &Shared<'_, E>,
 ) {
     // What can't be said for want of memory isn't.
-    if outcome == Outcome::Refused
+    if faults.has_refused()
         && let Ok(Some(reason)) = reason_of(alloc, system, &line.asked, of_input)
     {
         faults.say(&reason);

@@ -181,6 +181,7 @@ fn of_bytes(
     let said = match peek_root(first) {
         Ok(Some(root)) => return Ok((Some(root), None)),
         Ok(None) if bytes.is_empty() => format!(in alloc; "{name}: it is empty\n")?,
+        Ok(None) if is_out_of_order(first) => out_of_order(alloc, name)?,
         Ok(None) => format!(in alloc; "{name}: its first line isn't whole\n")?,
         Err(LoadFault::WrongRoot) => out_of_order(alloc, name)?,
         Err(_) => format!(in alloc;
@@ -188,6 +189,14 @@ fn of_bytes(
         )?,
     };
     Ok((None, Some(said)))
+}
+
+// Whether a header without its newline names a table whose states aren't in order.
+fn is_out_of_order(first: &[u8]) -> bool {
+    let mut line = [b'\n'; BEGINNING + 1];
+    let length = first.len().min(BEGINNING);
+    line[..length].copy_from_slice(&first[..length]);
+    peek_root(&line[..=length]) == Err(LoadFault::WrongRoot)
 }
 
 fn out_of_order(alloc: Global, name: &str) -> Result<String, NoMemory> {

@@ -17,7 +17,6 @@ pub mod Tape
 pub mod Layout
 pub mod Moments
 pub mod Shown
-pub mod WholeLines
 pub mod Picture
 pub mod Files
 pub mod Placing

@@ -3,4 +3,3 @@ pub mod Rows
 pub mod Drawn
 pub mod Lines
 pub mod Places
-pub mod Printing

@@ -20,7 +20,6 @@
 #![tactic(auto)]
 
 mod asked;
-mod asking;
 mod bitmap;
 mod cells;
 mod checks;
@@ -43,7 +42,6 @@ mod pixels;
 mod places;
 mod placing;
 mod png;
-mod printer;
 mod remainder;
 mod row;
 mod rows;

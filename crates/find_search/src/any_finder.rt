@@ -122,7 +122,7 @@ fn all_finders<'a>(
         finders.push(AnyFinder::Known(known))?;
     }
     if search.hard {
-        finders.push(AnyFinder::Hard(HardFinder::new(alloc, search.long_run)?))?;
+        finders.push(AnyFinder::Hard(HardFinder::new(alloc)?))?;
         return Ok(finders);
     }
     for letter in LETTERS {

@@ -9,8 +9,6 @@ pub enum Address<'a> {
     Port(u16),
     /// The path of a socket file.
     File(&'a str),
-    /// A number that is no port.
-    NoPort,
 }
 
 impl<'a> Address<'a> {
@@ -21,7 +19,6 @@ impl<'a> Address<'a> {
         }
         match text.parse::<u16>() {
             Ok(port) => Address::Port(port),
-            Err(_) if text.bytes().all(|byte| byte.is_ascii_digit()) => Address::NoPort,
             Err(_) => Address::Host(text),
         }
     }
@@ -31,7 +28,7 @@ impl<'a> Address<'a> {
         match self {
             Address::Host(host) => host.ends_with(":0"),
             Address::Port(port) => *port == 0,
-            Address::File(_) | Address::NoPort => false,
+            Address::File(_) => false,
         }
     }
 }

@@ -2,19 +2,18 @@
 use crate::address::Address;
 use crate::call::SocketCaller;
 use crate::failures::Failures;
-use crate::herald::Herald;
 use crate::named_file::NamedFile;
 use crate::named_socket::{LOOPBACK, NamedSocket};
 use crate::oddity::FirstBytes;
 use crate::peer_sockets::PeerSockets;
-use crate::progress::{ProgressTold, Telling};
-use crate::saying::{Odd, Saying};
+use crate::saying::{Odd, Saying, Wording};
+use crate::telling::{ReadingTold, Telling};
 use crate::watch::Watch;
 use crate::watched_file::WatchedFile;
 use cmd_nodes::{Admission, Network, Sockets};
 use cmd_options::{Ended, ended_by};
+use cmd_page::sum_of;
 use files::Disk;
-use sha2::{Digest, Sha256};
 use std::alloc::AllocError as NoMemory;
 use std::cell::Cell;
 use std::env;
@@ -32,8 +31,8 @@ pub struct System<'a> {
     watch: &'a Watch,
     // whether it was said last that no table is free
     idle: Cell<bool>,
-    // whether all words are said, also where standard error isn't a terminal
-    why: Cell<bool>,
+    // what is said where standard error isn't a terminal
+    words: Cell<Wording>,
 }
 
 impl<'a> System<'a> {
@@ -45,7 +44,10 @@ impl<'a> System<'a> {
             failures,
             watch,
             idle: Cell::new(false),
-            why: Cell::new(false),
+            words: Cell::new(Wording {
+                why: false,
+                is_terse: true,
+            }),
         }
     }
 
@@ -85,18 +87,12 @@ impl<'a> System<'a> {
         }
     }
 
-    // Whether all words are said.
-    fn says_all(&self) -> bool {
-        self.why.get() || self.tells_terminal()
-    }
-
     // Says a line at a terminal, and elsewhere where all is said; if there was memory for it.
     fn tell(&self, line: Result<String, NoMemory>) {
-        if self.says_all()
+        if self.words.get().are_all(self.tells_terminal())
             && let Ok(line) = line
         {
             // Nothing hangs on whether it can be said.
-            self.watch.clear(self.rt);
             let _ = writeln!(self.rt.stderr(), "{line}");
         }
     }
@@ -211,13 +207,6 @@ impl<'a> Disk for System<'a> {
         }
     }
 
-    fn is_taken(&self, path: &str) -> bool {
-        match fs::symlink_metadata(self.rt, path) {
-            Ok(found) => found.is_symlink() || (found.is_file() && found.len() > 0),
-            Err(_) => false,
-        }
-    }
-
     type File = NamedFile<'a>;
 
     fn go_on(&self, path: &str) -> io::Result<NamedFile<'a>> {
@@ -286,9 +275,7 @@ impl<'a> Disk for System<'a> {
     fn program_sum(&self) -> Option<[u8; 32]> {
         let path = env::current_exe(self.rt).ok()?;
         let mut file = fs::open(self.rt, path).ok()?;
-        let mut bytes = Vec::new(self.rt.alloc());
-        file.read_to_end(&mut bytes).ok()?;
-        Some(Sha256::digest(&bytes))
+        sum_of(&mut file, u64::MAX).ok()
     }
 
     fn tells_terminal(&self) -> bool {
@@ -296,12 +283,13 @@ impl<'a> Disk for System<'a> {
     }
 
     fn tell_cut(&self, path: &str, count: u64, kept_at: &str) {
-        // Nothing hangs on whether it can be said.
-        self.watch.clear(self.rt);
-        let _ = writeln!(
-            self.rt.stderr(),
-            "{path}: {count} bytes were cut off, and are kept in {kept_at}"
-        );
+        if self.words.get().have_cuts(self.tells_terminal()) {
+            // Nothing hangs on whether it can be said.
+            let _ = writeln!(
+                self.rt.stderr(),
+                "{path}: {count} bytes were cut off, and are kept in {kept_at}"
+            );
+        }
     }
 
     fn remember(&self, name: &str, fault: &io::Error) {
@@ -314,18 +302,8 @@ impl<'a> Disk for System<'a> {
 }
 
 impl Saying for System<'_> {
-    fn say_all(&self, why: bool) {
-        self.why.set(why);
-    }
-
-    fn tell_waiting(&self) {
-        if self.rt.stdin().is_terminal() {
-            // Nothing hangs on whether it can be said.
-            let _ = writeln!(
-                self.rt.stderr(),
-                "reading lines of standard input, to Ctrl-D"
-            );
-        }
+    fn say(&self, words: Wording) {
+        self.words.set(words);
     }
 
     fn odd(&self) -> Option<Odd> {
@@ -333,40 +311,24 @@ impl Saying for System<'_> {
     }
 }
 
-impl ProgressTold for System<'_> {
-    fn show(&self, telling: Telling, line: &str) {
-        self.watch.show(self.rt, telling, line);
-    }
-
-    fn finish(&self, telling: Telling, line: &str) {
-        self.watch.finish(self.rt, telling, line);
-    }
-
-    fn clear(&self) {
-        self.watch.clear(self.rt);
-    }
-
-    fn tell_reading(&self, telling: Telling, paths: &[&str]) {
-        let mut total: u64 = 0;
-        for path in paths {
-            total = total.saturating_add(bytes_at(self.rt, path));
-        }
-        if total > 0 {
+impl ReadingTold for System<'_> {
+    fn tell_reading(&self, telling: Telling, path: &str) {
+        let total = match fs::metadata(self.rt, path) {
+            Ok(found) if found.is_dir() => folder_bytes(self.rt, path).ok(),
+            Ok(found) if found.is_file() => Some(found.len()),
+            _ => None,
+        };
+        if let Some(total) = total {
             self.watch.begin(self.rt, telling, total);
         }
     }
 
+    fn pause_reading(&self) {
+        self.watch.pause(self.rt);
+    }
+
     fn end_reading(&self) {
         self.watch.end(self.rt);
-    }
-}
-
-// How many bytes a file has, or the files in a folder; none where neither is there.
-fn bytes_at(rt: &HostRuntime, path: &str) -> u64 {
-    match fs::metadata(rt, path) {
-        Ok(found) if found.is_dir() => folder_bytes(rt, path).unwrap_or_default(),
-        Ok(found) if found.is_file() => found.len(),
-        _ => 0,
     }
 }
 
@@ -431,11 +393,7 @@ impl<'a> Network for System<'a> {
 
     fn listen_at(&self, address: &str, admission: Admission) -> io::Result<PeerSockets<'a>> {
         let address_of = Address::of(address);
-        let herald = Herald::new(self.rt, self.watch, self.says_all());
-        let sockets = self.noted(
-            address,
-            PeerSockets::at(self.rt, herald, address_of, admission),
-        )?;
+        let sockets = self.noted(address, PeerSockets::at(self.rt, address_of, admission))?;
         if address_of.has_any_port() {
             let place = self.noted(address, sockets.place())?;
             // Nothing else says where it listens: a script reads it too.

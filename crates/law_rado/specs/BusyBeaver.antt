@@ -1,5 +1,5 @@
 -- What S(n) and Σ(n) are (Radó 1962), whole: all that stands here is made of whole numbers and options.
---
+-- judge/BusyBeaver.v has the same definitions in Coq, one by one, in this order.
 -- How to read it: `(x : A) → B` is "for each x of A, B", and `A → B` also the functions from A to B; `(x : A) × B` is
 -- "there is an x of A with B", `A × B` is "A and B", `≡` "is equal to"; `Type 0` has the types and the statements.
 -- ℕ has `zero` and `suc k`, which is k + 1; ℤ has all whole numbers, `pos k` is k as one of them, and `int_eq` tells

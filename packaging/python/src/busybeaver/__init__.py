@@ -225,8 +225,7 @@ def report(ledger: Union[str, _Bytes, "os.PathLike[str]", BinaryIO]) -> Report:
     """Reports a ledger: every record of it is judged.
 
     A text or bytes are the ledger itself; a path, such as a `pathlib.Path`, names its file, and a file that is open for
-    bytes is read to its end. Of a file one piece is in memory at a time. A text without a newline is no ledger, and raises
-    ValueError: it is taken for a file's name.
+    bytes is read to its end. Of a file one piece is in memory at a time.
     """
     if isinstance(ledger, os.PathLike):
         with open(ledger, "rb") as file:
@@ -234,8 +233,6 @@ def report(ledger: Union[str, _Bytes, "os.PathLike[str]", BinaryIO]) -> Report:
     if hasattr(ledger, "read"):
         return _report_file(ledger)
     given = _given(ledger)
-    if isinstance(ledger, str) and given and b"\n" not in given:
-        raise ValueError("a ledger's text has lines: a file is named by a pathlib.Path")
     told = _Tree()
     _report(given, len(given), _byref(told))
     return _as_report(told)

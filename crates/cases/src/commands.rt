@@ -5,7 +5,8 @@ use cmd_ledgers::{cmd_carry, cmd_merge, cmd_report, cmd_report_stream, cmd_retry
 use cmd_lines::{Reader, TableText, cmd_check, cmd_decide};
 use cmd_nodes::{NoLedger, Run, cmd_coord, cmd_run};
 use cmd_options::{
-    Beginning, Ended, LedgerFile, Options, Outcome, Reporting, Retrying, Search, Settling,
+    Beginning, Carrying, Ended, LedgerFile, Merging, Options, Outcome, Reporting, Retrying, Search,
+    Settling,
 };
 use files::{Files, Opened, Progress, held_at, ledger_at};
 use find_search::decider_for;
@@ -42,24 +43,8 @@ pub fn done(
         Options::Decide(deciding) => decided(alloc, &deciding.search, streams)?,
         Options::Report(reporting) => reported(alloc, reporting, files, streams),
         Options::Retry(retrying) => retried(alloc, retrying, files, streams)?,
-        Options::Merge(merging) => {
-            cmd_merge(
-                alloc,
-                *merging,
-                files,
-                &mut streams.answers,
-                &mut streams.faults,
-            )
-        }
-        Options::Carry(carrying) => {
-            cmd_carry(
-                alloc,
-                *carrying,
-                files,
-                &mut streams.answers,
-                &mut streams.faults,
-            )
-        }
+        Options::Merge(merging) => merged(alloc, *merging, files, streams),
+        Options::Carry(carrying) => carried(alloc, *carrying, files, streams),
         Options::Coord {
             beginning,
             ledger: Some(file),
@@ -143,6 +128,26 @@ fn reported(
     }
     let path = reporting.file;
     cmd_report(alloc, &form, reporting.why, path, files, answers, faults)
+}
+
+fn merged(
+    alloc: Global,
+    merging: Merging<'_>,
+    files: &mut MemFiles,
+    streams: &mut Streams<'_>,
+) -> Outcome {
+    let (answers, faults) = (&mut streams.answers, &mut streams.faults);
+    cmd_merge(alloc, merging, files, answers, faults)
+}
+
+fn carried(
+    alloc: Global,
+    carrying: Carrying<'_>,
+    files: &mut MemFiles,
+    streams: &mut Streams<'_>,
+) -> Outcome {
+    let (answers, faults) = (&mut streams.answers, &mut streams.faults);
+    cmd_carry(alloc, carrying, files, answers, faults)
 }
 
 fn coordinated(

@@ -5,6 +5,7 @@
 #   contrib/six.sh DIR --sum                          what all groups in DIR come to, as a report
 #   contrib/six.sh DIR --holdouts                     the tables that are left, a line each
 #   contrib/six.sh DIR --begin COMMIT OPTIONS..       makes DIR, for the program of a commit and these options of bb walk
+# examples/six is such a DIR, and what was walked so far.
 #
 # The tables with fewer than six filled entries are the trunk. The children of those of them that halt with five, 241,368, are the
 # roots, and their trees are disjoint. Group G, from 0 to 241, is the roots 1000 G + 1 to 1000 G + 1000 by name. Groups are

@@ -3,7 +3,7 @@
 
     kernel.py N BEST ONES < LEDGER > Small.v && coqc Small.v     (in this folder, after make)
 
-The ledger is that of the whole tree of N states, of the kinds H, C, T, B, F and N. Two states take seconds, three two minutes;
+The ledger is that of the whole tree of N states, of the kinds H, C, T, B, F and N. Two states take seconds, three some minutes;
 four are too many. Ends with 1 where a record is of another kind."""
 import sys
 

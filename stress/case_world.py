@@ -301,7 +301,7 @@ class Heard:
 
 
 # What a coordinator says at a terminal of a peer that comes or is gone; what is said of a cut, and of a call that is made again.
-HERALD = re.compile(rb"\r127\.0\.0\.1:(\d+) (?:is gone: (.*?)|[^\n]*?) *\n")
+HERALD = re.compile(rb"(?:\r\x1b\[K)?127\.0\.0\.1:(\d+) (?:is gone: (.*?)|[^\n]*?)\n")
 CUT = re.compile(rb"^([^\n]+): ([0-9]+) bytes were cut off, and are kept in ([^\n]+)\n", re.M)
 AGAIN = re.compile(rb"^([^\n]+); trying again in ([0-9]+) s\n", re.M)
 

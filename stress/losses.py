@@ -115,6 +115,86 @@ class Room:
         return name
 
 
+def unless_replaced():
+    """An OUT that is there already stays as it is, and nothing is made beside it, unless it is to be replaced; what is wrong with
+    what is read is said first."""
+    other = b"bb-ledger 2 ------_------\n"
+    room = Room({"a": TRUNK, "b": WHOLE, "small": HEADER, "other": other, "notes": b"what stood there", "empty": b"", **PARTS})
+    os.symlink("small", room.at("link"))
+    os.symlink("nowhere", room.at("dangling"))
+    os.link(room.at("b"), room.at("second"))
+    commands = (
+        (["merge", "a", "b"], b"merged 3 open 0 holdouts 0\n"),
+        (["carry", "b"], b"carried 3 halting 1\n"),
+        (["mend", "b"], b"mended 3 dropped 0\n"),
+        (["join", "parts", "--ledger"], REPORT),
+    )
+    for words, said in commands:
+        for out in ("a", "b", "./b", "second", "small", "other", "notes", "link", "dangling"):
+            kept = f"refused 604\n{out}: it is there already, and is replaced only with --replace\n".encode()
+            room.run([*words, out], 4, faults=kept)
+        ran = subprocess.run([PROGRAM, *words, "parts"], capture_output=True, cwd=room.folder, check=False)
+        if ran.returncode != 4 or not ran.stderr.startswith(b"refused 604\nparts: "):
+            sys.exit(f"losses: {words} over a folder: {ran!r}")
+        room.run([*words, "empty"], 0, said, after={"empty": WHOLE})
+        room.write("empty", b"")
+        room.run([*words, "notes", "--replace"], 0, said, after={"notes": WHOLE})
+        room.run([*words, "link", "--replace"], 0, said, after={"small": WHOLE})
+        room.write("notes", b"what stood there")
+        room.write("small", HEADER)
+    room.run(["merge", "a", "absent", "b"], 4, faults=b"refused 605\n")
+    roots = b"refused 405\nother: its root is ------_------, and that of a is ------\n"
+    room.run(["merge", "a", "other", "b"], 1, faults=roots)
+    room.run(["walk", "1", "--save", "b"], 4, faults=b"refused 604\nb: it is a ledger: records are saved to another file\n")
+    table = b"1RB1LB_1LA---"
+    room.run(["draw", "--out", "pictures", table.decode()], 0, table + b" drawn\n", after={"pictures/1RB1LB_1LA---.svg": picture(room)})
+    drawn = b"refused 605\npictures/1RB1LB_1LA---.svg: it is there already, and is replaced only with --replace\n"
+    room.run(["draw", "--out", "pictures", table.decode()], 4, faults=drawn)
+    room.run(["draw", "--out", "pictures", "--replace", table.decode()], 0, table + b" drawn\n")
+
+
+def picture(room):
+    """The picture of the champion of two states, as it is printed."""
+    return subprocess.run([PROGRAM, "draw", "1RB1LB_1LA---"], capture_output=True, cwd=room.folder, check=True).stdout
+
+
+def half_lines():
+    """Records are saved behind a last line that isn't whole, on lines of their own."""
+    known, table = b"1RB1RC_1LB1LA_---0RB T 12 27 R", "------_------"
+    for held in (known, b"1RB1RC_1LB1LA_---0RB T 12"):
+        room = Room({"saved": held})
+        Room.tried += 1
+        subprocess.run([PROGRAM, "walk", "2", "--save", "saved", "--dear", "0", "--far", "2", f"--root={table}"], capture_output=True, cwd=room.folder, check=False)
+        lines = room.held()["saved"].split(b"\n")
+        if lines[0] != held or len(lines) < 3 or lines[-1] != b"":
+            sys.exit(f"losses: walk --save behind {held!r}: {lines[:2]!r}")
+
+
+def lines_of_their_own():
+    """On a terminal that shows both streams a report isn't glued to the line that tells how far the reading is."""
+    packed = os.path.join(TOP, "examples", "four-states.ledger.xz")
+    if not shutil.which("xz"):
+        print("losses: there is no xz, and no long reading was tried")
+        return
+    held = subprocess.run(["xz", "-dc", packed], capture_output=True, check=True).stdout
+    room = Room({"four": held})
+    Room.tried += 1
+    reader, writer = pty.openpty()
+    ran = subprocess.Popen([PROGRAM, "report", "four"], stdin=subprocess.DEVNULL, stdout=writer, stderr=writer, cwd=room.folder)
+    os.close(writer)
+    shown = b""
+    try:
+        while piece := os.read(reader, 4096):
+            shown += piece
+    except OSError:
+        pass
+    ran.wait()
+    report = subprocess.run([PROGRAM, "report", "four"], capture_output=True, cwd=room.folder, check=False).stdout
+    lines = re.compile(rb"\r\x1b\[\?7l[^\r\n]*\x1b\[\?7h\x1b\[K|\r\x1b\[K")
+    if not lines.search(shown) or lines.sub(b"", shown).replace(b"\r\n", b"\n") != report:
+        sys.exit(f"losses: report at a terminal: {shown!r}")
+
+
 def pipes():
     """What is no plain file is read to its end where it is only read."""
     room = Room({"a": WHOLE, **PARTS})
@@ -258,7 +338,7 @@ def by_links():
 
 
 def main():
-    for play in (pipes, without_leave, places_to_listen, by_links):
+    for play in (unless_replaced, half_lines, lines_of_their_own, pipes, without_leave, places_to_listen, by_links):
         play()
     for folder in Room.folders:
         shutil.rmtree(folder, ignore_errors=True)

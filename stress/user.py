@@ -150,7 +150,7 @@ def helps(tries):
             wide.add(line)
             tries.expect(False, f"bb {words}: {len(line)} columns: {line!r}")
     status, said, faults = tries.run("bb --version")
-    tries.expect(status == 0 and faults == "" and re.fullmatch(r"bb \d+\.\d+\.\d+, .*\n", said), f"bb --version: {status} {said!r} {faults!r}")
+    tries.expect(status == 0 and faults == "" and re.fullmatch(r"bb \d+\.\d+\.\d+, .*\nsources [0-9a-f]{12}\n", said), f"bb --version: {status} {said!r} {faults!r}")
 
 
 def lists(tries):
@@ -363,10 +363,10 @@ def progress(tries):
         return
     ledger = os.path.join(TOP, "examples", "four-states.ledger.xz")
     tries.run(f"mkdir big && xz -dc {ledger} > big/trunk.ledger")
-    for command in ("bb report big/trunk.ledger", "bb join big"):
+    for command in ("bb report big/trunk.ledger", "bb join big", "bb carry big/trunk.ledger new", "bb mend big/trunk.ledger newer", "bb look big", "bb page big/trunk.ledger"):
         status, _, faults = tries.run(f"{command} --progress > reported & p=$!; sleep 0.2; kill -STOP $p; sleep 1.2; kill -CONT $p; wait $p")
-        tries.expect(status == 0 and re.search(r"^\d+\.\d% of \d+ bytes read", faults), f"{command} --progress: {status}, {faults!r}")
-    tries.run("rm -r big reported")
+        tries.expect(status == 0 and re.search(r"^0:00:\d\d \d+\.\d% of \d+ bytes read", faults), f"{command} --progress: {status}, {faults!r}")
+    tries.run("rm -r big reported new newer")
 
 
 # What `bb join` has to say of two states.
@@ -374,6 +374,30 @@ TWO_STATES = "nodes 61\nhalting 19\nnever 42\nholdouts 0\nopen 0\nbest 6\n"
 # A program that takes its time for a part, and a system whose disk is full.
 SLOW = '#!/bin/sh\n[ "$1" != settle ] || sleep 0.6\nexec bb "$@"\n'
 FULL = "#!/bin/sh\necho Filesystem 1024-blocks Used Available Capacity Mounted\necho none 9 9 0 100% /\n"
+
+
+def slips(tries):
+    """What is easily typed or closed too early, and what comes of it."""
+    table = "1RB1LC_1RC1RB_1RD0LE_1LA1LD_---0LA"
+    # who reads no more needs no words for it
+    for command in (f"echo {table} | bb show --steps 1000000", "yes 1RB1LB_1LA--- | bb tables", "yes '1RB1LB_1LA--- H 6' | bb check"):
+        _, said, faults = tries.run(f"{{ {command}; echo $? > ended; }} | head -n 1; cat ended >&2")
+        tries.expect(faults == "refused 603\n4\n" and said.count("\n") == 1, f"{command} | head: {said!r}, {faults!r}")
+    # a root without entries, and one with a table behind a space
+    for words in ("------_------ --far 2", "=------_------ --far 2"):
+        status, said, faults = tries.run(f"bb walk 2 --root{' ' if words[0] == '-' else ''}{words}")
+        tries.expect(status == 0 and "best 6\n" in said, f"bb walk --root {words}: {status}, {said!r}, {faults!r}")
+    for words, told in (("2 --root 1RB1LB_1LA", "it is no table"), ("3 --root ------_------", "it has two states, not three states as asked"), ("2 --root 1RA---_0RC---", "--root 1RA---_0RC---: ")):
+        status, said, faults = tries.run(f"bb walk {words}")
+        tries.expect(status != 0 and said == "" and faults.startswith("refused 405\n") and told in faults, f"bb walk {words}: {status}, {said!r}, {faults!r}")
+    status, said, faults = tries.run("bb check 1RB1LB_1LA--- H 6 4")
+    tries.expect(said == "" and status == 2 and "quot" in faults, f"a record without quotes: {status}, {said!r}, {faults!r}")
+    for number in ("1,000", "10k", "1.5e3"):
+        status, _, faults = tries.run(f"bb decide --steps {number} < /dev/null")
+        tries.expect(status == 2 and "a number is written as 1000, 1_000 or 1e3" in faults, f"--steps {number}: {faults!r}")
+    for command in ("bb mend - -", "bb walk 2 --save -", "bb run 2 --ledger -"):
+        status, said, faults = tries.run(command)
+        tries.expect((status, said) == (2, "") and not os.path.exists(os.path.join(tries.here, "-")), f"{command}: {status}, {said!r}, {faults!r}")
 
 
 def script(path, text):
@@ -398,6 +422,17 @@ def trees(tries, program):
         if name.startswith("tree"):
             tries.expect(re.search(r"^disk: a tree of 3 states takes 1 MB; three has 0 MB of it, and \d+ MB are free$", faults, re.MULTILINE), f"contrib/{name} doesn't say how much disk: {faults!r}")
             tries.expect(re.search(r"^24 of 24 parts done, 5412 tables, \d+ a second, 0:00:00 left$", faults, re.MULTILINE), f"contrib/{name} doesn't say what is done: {faults!r}")
+    # The smallest tree, parts of another size, and their heads; no worker stays behind a coordinator that can't begin.
+    for name, tree in (("walk.sh 1", "1"), ("walk.sh 2 0", "2")):
+        status, said, faults = tries.run(f"unset BB; ../house/contrib/{name}")
+        tries.expect((status, said) == (0, tries.run(f"bb run {tree} --hard")[1]), f"contrib/{name}: {status}, {said!r}, {faults!r}")
+    for name in sorted(os.listdir(os.path.join(house, "contrib"))):
+        if name.endswith(".sh") or name == "rules":
+            status, said, faults = tries.run(f"../house/contrib/{name} --help")
+            tries.expect(status == 0 and f"contrib/{name}" in said and faults == "", f"contrib/{name} --help: {status}, {said!r}, {faults!r}")
+    status, said, faults = tries.run("unset BB; ../house/contrib/all.sh 9 --hard")
+    left = subprocess.run(["pgrep", "-f", f"{tries.folder}.*work --connect"], capture_output=True, text=True, check=False).stdout
+    tries.expect(status != 0 and left == "", f"contrib/all.sh 9 leaves workers behind: {status}, {left!r}")
     if shutil.which("ocamlfind"):
         made(tries, ["judge", os.path.join(tries.folder, "judge")])
         status, said, faults = tries.run("make -s -C ../judge program && ../judge/judge 3 three 4")
@@ -483,6 +518,7 @@ def main():
         mixed_up(tries)
         named(tries)
         given(tries)
+        slips(tries)
         cluster(tries)
         crowd(tries)
         progress(tries)

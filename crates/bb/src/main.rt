@@ -3,6 +3,9 @@
 //! do stands in `cmd_lines`, `cmd_ledgers`, `cmd_parts` and `cmd_nodes`.
 #![tactic(auto)]
 
+mod built;
+
+use built::SOURCES;
 use cmd_dispatch::obey;
 pub use cmd_json::report_json;
 pub use cmd_ledgers::{cmd_carry, cmd_merge, cmd_report, cmd_retry, report};
@@ -20,6 +23,7 @@ fn main(rt: HostRuntime) -> ExitCode {
     let outcome = obey(
         rt.alloc(),
         words_of(&rt),
+        SOURCES,
         &System::of(&rt, &failures, &watch),
         &mut rt.stdin(),
         &mut rt.stdout(),

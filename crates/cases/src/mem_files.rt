@@ -121,7 +121,12 @@ impl Files for MemFiles {
 
     type Made = MemLedger;
 
-    fn make(&self, _file: &LedgerFile<'_>, _read: &[&str]) -> io::Result<MemLedger> {
+    fn make(
+        &self,
+        _file: &LedgerFile<'_>,
+        _replace: bool,
+        _read: &[&str],
+    ) -> io::Result<MemLedger> {
         Ok(MemLedger::new(self.alloc))
     }
 

@@ -59,7 +59,7 @@ abbrev pub DoesCommand : {H K D C V N F G W : Type 0} → Met H K D C V N F G W 
 DoesCommand m (Check c) old new i s ended = LeavesFiles old new (DoesCheck c.json c.why i s ended)
 DoesCommand m (Decide d) old new i s ended = LeavesFiles old new (DoesDecide m.counted d.json d.keep i s ended)
 DoesCommand m (Explain explaining) old new i s ended = LeavesFiles old new (DoesExplain explaining i s ended)
-DoesCommand m (Show showing) old new i s ended = LeavesFiles old new (DoesShow showing i s ended)
+DoesCommand m (Show showing) old new i s ended = LeavesFiles old new (DoesShow s ended)
 DoesCommand m (Tables listing) old new i s ended = LeavesFiles old new (DoesList listing i s ended)
 DoesCommand m (Draw drawing) old new i s ended = Always (Draws m.tells m.holds drawing old new i s) ended
 DoesCommand m (Coord beginning ledger listening) old new i s ended =

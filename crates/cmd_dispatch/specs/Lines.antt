@@ -1,6 +1,5 @@
 -- Commands that go by lines.
-use Rattle.std.specs.Prelude.{◌≡◌, ◌⊎◌, ℕ, min, Bool, true, false, List, Option, Some, None, IfNone, IfSome, Result, Ok, Err}
-use Rattle.std.specs.Borrow.{Bor}
+use Rattle.std.specs.Prelude.{◌≡◌, ◌⊎◌, ℕ, Bool, true, false, List, Option, Some, None, IfNone, IfSome, Result, Ok, Err}
 use Rattle.machine_text.specs.Packed.{Packed}
 use Rattle.cert.specs.Claim.{Recorded}
 use Rattle.cmd_options.specs.declared.drawing.Drawing.{Drawing}
@@ -9,7 +8,6 @@ use Rattle.cmd_options.specs.declared.options.Deciding.{Deciding}
 use Rattle.cmd_options.specs.declared.options.Explaining.{Explaining}
 use Rattle.cmd_options.specs.declared.options.Listing.{Listing}
 use Rattle.cmd_options.specs.declared.options.Search.{Search}
-use Rattle.cmd_options.specs.declared.options.Showing.{Showing}
 use Rattle.cmd_options.specs.declared.outcome.Outcome.{Outcome}
 use Rattle.cmd_options.specs.declared.outcome.Outcome.TheVariants.{Accepted}
 use Rattle.files.specs.Paths.{SameFile, Shelf}
@@ -25,10 +23,10 @@ use Rattle.cmd_explain.specs.Listed.{SaysListed}
 use Rattle.cmd_explain.specs.SeenLines.{SaysSeen}
 use Rattle.cmd_json.specs.LineObjects.{SaysChecked, SaysDecided, SaysTold}
 use Rattle.cmd_json.specs.Numbered.{AnswersFirstNumbered, AnswersNumbered}
-use Rattle.cmd_show.specs.Shown.{SaysShown}
+use Rattle.cmd_show.specs.WholeLines.{EndsInLines}
 use Rattle.cmd_show.specs.Files.{DrawsFiles, DrawsFirstLines}
 use Rattle.cmd_show.specs.One.{EndsPicture}
-use Rattle.system.specs.declared.timed.CountedDecider.{CountedDecider}
+use Rattle.system.specs.declared.progress.CountedDecider.{CountedDecider}
 use Rattle.cmd_dispatch.specs.Ends.{Input, Said, EndsLines, TellsLines, SaysLines, WantsRoom, EndsLate}
 
 -- `bb check`: whether as JSON, and whether it says why
@@ -39,10 +37,10 @@ DoesCheck false true i s ended = EndsLines (AnswersStream SaysOfRecord) (Answers
 DoesCheck false false i s ended = TellsLines (AnswersStream SaysOfRecord) (AnswersFirst SaysOfRecord) i s ended
 
 -- what is known, and in so many steps at most halting and loops; besides, that a table has no pair that halts
-abbrev pub run_alone : Option (Bor (List ℕ)) → ℕ → Search
-run_alone known steps = record {
-  known = known;
-  steps = min steps 100000000;
+abbrev pub run_alone : Search → ℕ → Search
+run_alone asked steps = record {
+  known = asked.known;
+  steps = steps;
   depth = 0;
   gram = 0;
   far = 0;
@@ -50,21 +48,21 @@ run_alone known steps = record {
   count = 0;
   rules = 0;
   hard = false;
+  long_run = asked.long_run;
 }
 
 -- how far `bb decide` searches: as it is asked for, or only as far as a run alone goes
 abbrev pub reach_for : Option ℕ → Search → Search
 reach_for None asked = asked
-reach_for (Some steps) asked = run_alone asked.known steps
+reach_for (Some steps) asked = run_alone asked steps
 
 abbrev pub reach_of : Deciding → Search
 reach_of d = reach_for d.run d.search
 
 -- what a decider may answer whose tables are counted: what the one that it asks may
-abbrev pub answers_counted : {D : Type 0} → (C E : Type 0) → (D → Packed → Recorded → Type 0) → CountedDecider D C E
-    → Packed
-    → Recorded → Type 0
-answers_counted C E answers asked t r = answers asked.decider.now t r
+abbrev pub answers_counted : {D : Type 0} → (S : Type 0) → (D → Packed → Recorded → Type 0) → CountedDecider D S
+    → Packed → Recorded → Type 0
+answers_counted S answers asked t r = answers asked.decider.now t r
 
 -- how the tables of answers are printed: as they came where that is asked for
 abbrev pub form_asked : Bool → TableText
@@ -104,8 +102,9 @@ abbrev pub DoesExplain : Explaining → Input → Said → Result Outcome Ended 
 DoesExplain e i s ended = ExplainsLines e.json e.dot e.run i s ended
 
 -- `bb show`
-abbrev pub DoesShow : Showing → Input → Said → Result Outcome Ended → Type 0
-DoesShow showing i s ended = TellsLines (AnswersStream (SaysShown showing)) (AnswersFirst (SaysShown showing)) i s ended
+abbrev pub DoesShow : Said → Result Outcome Ended → Type 0
+DoesShow s (Ok o) = EndsInLines s.held s.new_held o
+DoesShow s (Err e) = ⊥
 
 -- `bb draw`: the picture of the first table as an answer, and no file changes; or those of all as files of a folder
 abbrev pub Draws : {H : Type 0} → (H → SameFile) → (H → Shelf) → Drawing → H → H → Input → Said → Outcome → Type 0

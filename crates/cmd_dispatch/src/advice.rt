@@ -11,12 +11,13 @@ pub(crate) enum Place<'a> {
     Input,
 }
 
-// The line that says it.
+// The line that says it. A folder may have a trunk and parts.
 pub(crate) fn advice(
     alloc: Global,
     manner: Manner,
     place: Place<'_>,
     oddity: Oddity,
+    has_parts: bool,
 ) -> Result<String, NoMemory> {
     let (name, file) = match place {
         Place::File(path) => (path, path),
@@ -31,6 +32,13 @@ pub(crate) fn advice(
         Oddity::CarriageReturn => {
             let rest = rest_of(alloc, manner, place)?;
             format!(in alloc; "{name}: its first line ends in CR LF: tr -d '\\r' < {file}{rest}\n")
+        }
+        Oddity::NoText => format!(in alloc; "{name}: it is no text\n"),
+        Oddity::Folder if !has_parts => format!(in alloc; "{name}: it is a folder\n"),
+        Oddity::Folder if manner.name == "settle" => {
+            format!(in alloc;
+                "{name}: it is a folder: contrib/parallel.sh {file} settles its parts\n"
+            )
         }
         Oddity::Folder if manner.name == "report -" => {
             format!(in alloc; "{name}: it is a folder: bb join {file}\n")

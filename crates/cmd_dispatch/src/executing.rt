@@ -20,7 +20,7 @@ use lease_core::Worker;
 use std::alloc::Global;
 use std::io::{Read, Write};
 use std::time::Clock;
-use system::ReadingTold;
+use system::ProgressTold;
 use wire::Node;
 
 /// Does what is asked for: `bb check`, `bb decide`, `bb explain`, `bb show`, `bb tables`, `bb draw` and `bb coord` read
@@ -28,7 +28,7 @@ use wire::Node;
 /// `answers`, and what ends the command early to `faults`. Each end is an `Outcome`: want of memory and a stream or a file
 /// that fails too.
 pub fn execute<
-    S: Disk + Clock + Sockets + Network + ReadingTold,
+    S: Disk + Clock + Sockets + Network + ProgressTold,
     H: Files,
     R: Read,
     W: Write,
@@ -49,7 +49,7 @@ pub fn execute<
       locks = H.locks;
       remaining = held_bytes H.Reader.remaining;
       answers = ⟦<Finders<AnyFinder<'static>> as Decider>⟧.answers;
-      counted = answers_counted S E ⟦<Finders<AnyFinder<'static>> as Decider>⟧.answers;
+      counted = answers_counted S ⟦<Finders<AnyFinder<'static>> as Decider>⟧.answers;
       saved = ⟦<SavingDecider<Finders<AnyFinder<'static>>, H::Ledger> as Decider>⟧.answers;
       replies = ⟦<Worker<Finders<AnyFinder<'static>>> as Node>⟧.answers;
       takes = S.Connections.takes;
@@ -67,7 +67,7 @@ pub fn execute<
 
 // Does what is asked for, where known records are read if any are asked for.
 fn executed<
-    S: Disk + Clock + Sockets + Network + ReadingTold,
+    S: Disk + Clock + Sockets + Network + ProgressTold,
     H: Files,
     R: Read,
     W: Write,
@@ -90,7 +90,7 @@ fn executed<
       locks = H.locks;
       remaining = held_bytes H.Reader.remaining;
       answers = ⟦<Finders<AnyFinder<'static>> as Decider>⟧.answers;
-      counted = answers_counted S E ⟦<Finders<AnyFinder<'static>> as Decider>⟧.answers;
+      counted = answers_counted S ⟦<Finders<AnyFinder<'static>> as Decider>⟧.answers;
       saved = ⟦<SavingDecider<Finders<AnyFinder<'static>>, H::Ledger> as Decider>⟧.answers;
       replies = ⟦<Worker<Finders<AnyFinder<'static>>> as Node>⟧.answers;
       takes = S.Connections.takes;
@@ -120,7 +120,7 @@ fn tell_refused<E: Write>(alloc: Global, known: &Option<KnownFile<'_>>, faults: 
 }
 
 // Each command, by what it is asked for.
-fn done<S: Disk + Clock + Sockets + Network + ReadingTold, H: Files, R: Read, W: Write, E: Write>(
+fn done<S: Disk + Clock + Sockets + Network + ProgressTold, H: Files, R: Read, W: Write, E: Write>(
     call: Call<'_, S>,
     asked: Options<'_>,
     files: &mut H,
@@ -135,7 +135,7 @@ fn done<S: Disk + Clock + Sockets + Network + ReadingTold, H: Files, R: Read, W:
       locks = H.locks;
       remaining = held_bytes H.Reader.remaining;
       answers = ⟦<Finders<AnyFinder<'static>> as Decider>⟧.answers;
-      counted = answers_counted S E ⟦<Finders<AnyFinder<'static>> as Decider>⟧.answers;
+      counted = answers_counted S ⟦<Finders<AnyFinder<'static>> as Decider>⟧.answers;
       saved = ⟦<SavingDecider<Finders<AnyFinder<'static>>, H::Ledger> as Decider>⟧.answers;
       replies = ⟦<Worker<Finders<AnyFinder<'static>>> as Node>⟧.answers;
       takes = S.Connections.takes;
@@ -191,9 +191,9 @@ fn done<S: Disk + Clock + Sockets + Network + ReadingTold, H: Files, R: Read, W:
             )
         }
         Options::Retry(retrying) => ledgers::retry(call, &retrying, files, answers, faults),
-        Options::Merge(merging) => ledgers::merge(call.alloc, merging, files, answers, faults),
-        Options::Carry(carrying) => ledgers::carry(call.alloc, carrying, files, answers, faults),
-        Options::Mend(mending) => ledgers::mend(call.alloc, mending, files, input, answers, faults),
+        Options::Merge(merging) => ledgers::merge(call, merging, files, answers, faults),
+        Options::Carry(carrying) => ledgers::carry(call, carrying, files, answers, faults),
+        Options::Mend(mending) => ledgers::mend(call, mending, files, input, answers, faults),
         Options::Report(reporting) => {
             ledgers::report(call, &reporting, files, input, answers, faults)
         }
@@ -201,14 +201,12 @@ fn done<S: Disk + Clock + Sockets + Network + ReadingTold, H: Files, R: Read, W:
         Options::Split(splitting) => folders::split(call, &splitting, files, answers, faults),
         Options::Settle(settling) => folders::settle(call, &settling, files, answers, faults),
         Options::Join(joining) => folders::join(call, &joining, files, input, answers, faults),
-        Options::Look(looking) => folders::look(
-            call.alloc, &looking, files, input, answers, faults,
-        ),
+        Options::Look(looking) => folders::look(call, &looking, files, input, answers, faults),
     }
 }
 
 // `bb coord` of a whole tree, over its input and output or over connections.
-fn coordinate<S: Disk + Clock + Network, H: Files, R: Read, W: Write, E: Write>(
+fn coordinate<S: Disk + Clock + ProgressTold + Network, H: Files, R: Read, W: Write, E: Write>(
     call: Call<'_, S>,
     beginning: Beginning,
     ledger: Option<LedgerFile<'_>>,

@@ -6,8 +6,7 @@ ghost use Rattle.cmd_dispatch.specs.Ledgers.{JoinsAsked, JoinsFolder, JoinsRead,
 
 use crate::call::Call;
 use crate::late::Late;
-use crate::ledgers::STANDARD_INPUT;
-use crate::own_line::OwnLine;
+use crate::ledgers::{STANDARD_INPUT, tell_reading};
 use cert::{Decider, Finders};
 use cmd_json::LinesOrJson;
 use cmd_options::{Ended, Joining, LedgerSettling, Looking, Outcome, Splitting};
@@ -17,10 +16,10 @@ use find_search::{AnyFinder, decider_for};
 use std::alloc::Global;
 use std::io::{Read, Write};
 use std::time::Clock;
-use system::{ReadingTold, Telling, TimedProgress, Work};
+use system::{ProgressTold, Telling, TimedProgress, Work};
 
 // `bb split`.
-pub(crate) fn split<S: Disk + Clock, H: Files, W: Write, E: Write>(
+pub(crate) fn split<S: Disk + Clock + ProgressTold, H: Files, W: Write, E: Write>(
     call: Call<'_, S>,
     splitting: &Splitting<'_>,
     files: &mut H,
@@ -43,7 +42,7 @@ pub(crate) fn split<S: Disk + Clock, H: Files, W: Write, E: Write>(
     let mut decider = decider_for(alloc, known, &splitting.search)?;
     let telling = Telling::of(splitting.progress, system.tells_terminal());
     let mut late = Late::new(alloc)?;
-    let mut progress = TimedProgress::new(alloc, telling, Work::Tree, system, &mut *faults);
+    let mut progress = TimedProgress::new(alloc, telling, Work::Tree, system);
     let outcome = cmd_split(
         alloc,
         splitting,
@@ -57,18 +56,18 @@ pub(crate) fn split<S: Disk + Clock, H: Files, W: Write, E: Write>(
     Ok(late.say(outcome, faults))
 }
 
-// `bb settle`; how far it is, is told on `faults` where that is wanted.
-pub(crate) fn settle<S: Disk + Clock, H: Files, W: Write, E: Write>(
+// `bb settle`.
+pub(crate) fn settle<S: Disk + Clock + ProgressTold, H: Files, W: Write, E: Write>(
     call: Call<'_, S>,
     settling: &LedgerSettling<'_>,
     files: &mut H,
     answers: &mut W,
-    faults: &mut E,
+    _faults: &mut E,
 ) -> Result<Outcome, Ended>
     ensures { Settles (AtSomeTime _ ⟦<Finders<AnyFinder<'static>> as Decider>⟧.answers) H.locks
         (H.tells_same files.old) settling.now (H.holds files.old) (H.holds files.new) (output_of
         (W.contents answers.old) (W.contents answers.new)
-        (E.contents faults.old) (E.contents faults.new)) result }
+        (E.contents _faults.old) (E.contents _faults.new)) result }
 {
     let Call {
         alloc,
@@ -77,7 +76,7 @@ pub(crate) fn settle<S: Disk + Clock, H: Files, W: Write, E: Write>(
     } = call;
     let mut decider = decider_for(alloc, known, &settling.search)?;
     let telling = Telling::of(settling.progress, system.tells_terminal());
-    let mut progress = TimedProgress::new(alloc, telling, Work::Tree, system, faults);
+    let mut progress = TimedProgress::new(alloc, telling, Work::Tree, system);
     let ended = settle_ledger_at(
         alloc,
         settling.file,
@@ -92,7 +91,7 @@ pub(crate) fn settle<S: Disk + Clock, H: Files, W: Write, E: Write>(
 }
 
 // `bb join`, of a folder or of `input`.
-pub(crate) fn join<S: Disk + ReadingTold, H: Files, R: Read, W: Write, E: Write>(
+pub(crate) fn join<S: Disk + ProgressTold, H: Files, R: Read, W: Write, E: Write>(
     call: Call<'_, S>,
     joining: &Joining<'_>,
     files: &mut H,
@@ -129,7 +128,7 @@ fn join_read<R: Read, W: Write, E: Write>(
 
 // Of a folder; how far the reading is, is told where that is wanted.
 #[tactic(auto, using(crate::proofs::Joining::joined))]
-fn join_folder<S: Disk + ReadingTold, H: Files, W: Write, E: Write>(
+fn join_folder<S: Disk + ProgressTold, H: Files, W: Write, E: Write>(
     call: Call<'_, S>,
     joining: &Joining<'_>,
     files: &mut H,
@@ -142,20 +141,15 @@ fn join_folder<S: Disk + ReadingTold, H: Files, W: Write, E: Write>(
 {
     let Call { alloc, system, .. } = call;
     let form = LinesOrJson::of(joining.json);
-    let telling = Telling::of(joining.progress, system.tells_terminal());
-    system.tell_reading(telling, joining.folder);
-    let mut faults = OwnLine {
-        system,
-        stream: faults,
-    };
-    let outcome = cmd_join(alloc, &form, joining, files, answers, &mut faults);
+    tell_reading(system, joining.progress, &[joining.folder]);
+    let outcome = cmd_join(alloc, &form, joining, files, answers, faults);
     system.end_reading();
     outcome
 }
 
 // `bb look`, in a ledger or in a folder.
-pub(crate) fn look<H: Files, R: Read, W: Write, E: Write>(
-    alloc: Global,
+pub(crate) fn look<S: Disk + ProgressTold, H: Files, R: Read, W: Write, E: Write>(
+    call: Call<'_, S>,
     looking: &Looking<'_>,
     files: &H,
     input: &mut R,
@@ -167,5 +161,8 @@ pub(crate) fn look<H: Files, R: Read, W: Write, E: Write>(
         (output_of (W.contents answers.old) (W.contents answers.new)
         (E.contents faults.old) (E.contents faults.new)) result }
 {
-    look_at(alloc, looking, files, input, answers, faults)
+    tell_reading(call.system, looking.progress, &[looking.path]);
+    let ended = look_at(call.alloc, looking, files, input, answers, faults);
+    call.system.end_reading();
+    ended
 }

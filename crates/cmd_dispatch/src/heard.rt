@@ -1,8 +1,9 @@
 // Standard input, of which it is known how it begins, and where that is asked for, why its lines are refused.
-use crate::manner::{Lines, Source};
+use crate::manner::{Lines, Manner, Source};
 use crate::refusals::Refusals;
 use crate::shared::Shared;
 use cmd_lines::LineLoop;
+use cmd_words::CommandLine;
 use std::alloc::Global;
 use std::io::{self, ErrorKind, Read, Write};
 use system::{FirstBytes, Oddity};
@@ -19,25 +20,38 @@ pub(crate) struct Heard<'a, 'b, 'c, R, E> {
 }
 
 impl<'a, 'b, 'c, R: Read, E: Write> Heard<'a, 'b, 'c, R, E> {
-    // What is asked for of lines is why they are refused, leniently or not.
+    // The input of a command. Of lines it is said why they are refused where that is asked for; that a second table isn't drawn is said
+    // in any case.
     pub fn of(
         alloc: Global,
         stream: &'a mut R,
-        source: Source,
-        lines: Option<Lines>,
-        is_lenient: bool,
+        manner: Manner,
+        line: &CommandLine<'_>,
         faults: &'b Shared<'c, E>,
     ) -> Heard<'a, 'b, 'c, R, E> {
-        let refusals = match lines {
-            Some(lines) => Some(Refusals::new(alloc, lines, is_lenient, faults)),
-            None => None,
+        let refusals = if line.why || manner.lines == Lines::One {
+            Some(Refusals::new(alloc, manner.lines, line, faults))
+        } else {
+            None
         };
         Heard {
             stream,
-            source,
+            source: manner.source,
             beginning: FirstBytes::none(),
             lines: LineLoop::new(alloc),
             refusals,
+        }
+    }
+
+    // The first bytes of the input.
+    pub fn beginning(&self) -> &[u8] {
+        self.beginning.bytes()
+    }
+
+    // Says what belongs behind the answer.
+    pub fn tell_rest(&mut self) {
+        if let Some(refusals) = &mut self.refusals {
+            refusals.tell_rest();
         }
     }
 
@@ -46,9 +60,9 @@ impl<'a, 'b, 'c, R: Read, E: Write> Heard<'a, 'b, 'c, R, E> {
         self.beginning.oddity()
     }
 
-    // Whether it has no lines though these are wanted, for it is compressed.
-    pub fn is_packed(&self) -> bool {
-        self.source == Source::Lines && matches!(self.oddity(), Some(Oddity::Packed(_)))
+    // Whether it has no lines though these are wanted: it is compressed, or no text.
+    pub fn has_no_lines(&self) -> bool {
+        self.source == Source::Lines && self.oddity().is_some_and(Oddity::has_no_lines)
     }
 
     // Says why lines are refused, of those that end in a piece; behind the last piece of the one that has no newline.
@@ -71,7 +85,7 @@ impl<R: Read, E: Write> Read for Heard<'_, '_, '_, R, E> {
         let count = self.stream.read(buf)?;
         let piece = &buf[..count.min(room)];
         self.beginning.take(piece);
-        if self.is_packed() {
+        if self.has_no_lines() {
             return Err(io::Error::from(ErrorKind::InvalidData));
         }
         if room > 0 {

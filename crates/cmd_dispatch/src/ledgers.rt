@@ -9,7 +9,6 @@ ghost use Rattle.cmd_dispatch.specs.Ledgers.{Carries, Mends, MergesAsked, Report
 
 use crate::call::Call;
 use crate::late::Late;
-use crate::own_line::OwnLine;
 use cert::{Decider, Finders};
 use cmd_json::LinesOrJson;
 use cmd_ledgers::{
@@ -21,13 +20,13 @@ use find_search::{AnyFinder, decider_for};
 use std::alloc::Global;
 use std::io::{Read, Write};
 use std::time::Clock;
-use system::{ReadingTold, Telling, TimedProgress, Work};
+use system::{ProgressTold, Telling, TimedProgress, Work};
 
 // In place of a ledger's path: it is read from `input`.
 pub(crate) const STANDARD_INPUT: &str = "-";
 
 // `bb retry`, over a ledger that has to be there.
-pub(crate) fn retry<S: Disk + Clock, H: Files, W: Write, E: Write>(
+pub(crate) fn retry<S: Disk + Clock + ProgressTold, H: Files, W: Write, E: Write>(
     call: Call<'_, S>,
     retrying: &Retrying<'_>,
     files: &mut H,
@@ -49,7 +48,7 @@ pub(crate) fn retry<S: Disk + Clock, H: Files, W: Write, E: Write>(
     let mut decider = decider_for(alloc, known, &retrying.search)?;
     let telling = Telling::of(retrying.progress, system.tells_terminal());
     let mut late = Late::new(alloc)?;
-    let mut progress = TimedProgress::new(alloc, telling, Work::Holdouts, system, &mut *faults);
+    let mut progress = TimedProgress::new(alloc, telling, Work::Holdouts, system);
     let outcome = cmd_retry(
         alloc,
         retrying.file,
@@ -64,8 +63,8 @@ pub(crate) fn retry<S: Disk + Clock, H: Files, W: Write, E: Write>(
 }
 
 // `bb merge`.
-pub(crate) fn merge<H: Files, W: Write, E: Write>(
-    alloc: Global,
+pub(crate) fn merge<S: Disk + ProgressTold, H: Files, W: Write, E: Write>(
+    call: Call<'_, S>,
     merging: Merging<'_>,
     files: &mut H,
     answers: &mut W,
@@ -78,12 +77,19 @@ pub(crate) fn merge<H: Files, W: Write, E: Write>(
         (E.contents faults.old) (E.contents faults.new)) result }
 {
     let _lock = lock_ledger(files, merging.out)?;
-    Ok(cmd_merge(alloc, merging, files, answers, faults))
+    tell_reading(
+        call.system,
+        merging.progress,
+        &[merging.first, merging.second],
+    );
+    let outcome = cmd_merge(call.alloc, merging, files, answers, faults);
+    call.system.end_reading();
+    Ok(outcome)
 }
 
 // `bb carry`.
-pub(crate) fn carry<H: Files, W: Write, E: Write>(
-    alloc: Global,
+pub(crate) fn carry<S: Disk + ProgressTold, H: Files, W: Write, E: Write>(
+    call: Call<'_, S>,
     carrying: Carrying<'_>,
     files: &mut H,
     answers: &mut W,
@@ -96,12 +102,15 @@ pub(crate) fn carry<H: Files, W: Write, E: Write>(
         (E.contents faults.old) (E.contents faults.new)) result }
 {
     let _lock = lock_ledger(files, carrying.out)?;
-    Ok(cmd_carry(alloc, carrying, files, answers, faults))
+    tell_reading(call.system, carrying.progress, &[carrying.ledger]);
+    let outcome = cmd_carry(call.alloc, carrying, files, answers, faults);
+    call.system.end_reading();
+    Ok(outcome)
 }
 
 // `bb mend`, of a file or of `input`.
-pub(crate) fn mend<H: Files, R: Read, W: Write, E: Write>(
-    alloc: Global,
+pub(crate) fn mend<S: Disk + ProgressTold, H: Files, R: Read, W: Write, E: Write>(
+    call: Call<'_, S>,
     mending: Mending<'_>,
     files: &mut H,
     input: &mut R,
@@ -117,13 +126,16 @@ pub(crate) fn mend<H: Files, R: Read, W: Write, E: Write>(
 {
     let _lock = lock_ledger(files, mending.out)?;
     if mending.ledger == STANDARD_INPUT {
-        return Ok(cmd_mend_stream(alloc, mending.out, files, input, answers, faults));
+        return Ok(cmd_mend_stream(call.alloc, mending, files, input, answers, faults));
     }
-    Ok(cmd_mend(alloc, mending, files, answers, faults))
+    tell_reading(call.system, mending.progress, &[mending.ledger]);
+    let outcome = cmd_mend(call.alloc, mending, files, answers, faults);
+    call.system.end_reading();
+    Ok(outcome)
 }
 
 // `bb report`, of a file or of `input`.
-pub(crate) fn report<S: Disk + ReadingTold, H: Files, R: Read, W: Write, E: Write>(
+pub(crate) fn report<S: Disk + ProgressTold, H: Files, R: Read, W: Write, E: Write>(
     call: Call<'_, S>,
     reporting: &Reporting<'_>,
     files: &H,
@@ -159,7 +171,7 @@ fn report_read<R: Read, W: Write, E: Write>(
 }
 
 // Of a file; how far the reading is, is told where that is wanted.
-fn report_file<S: Disk + ReadingTold, H: Files, W: Write, E: Write>(
+fn report_file<S: Disk + ProgressTold, H: Files, W: Write, E: Write>(
     call: Call<'_, S>,
     reporting: &Reporting<'_>,
     files: &H,
@@ -173,13 +185,14 @@ fn report_file<S: Disk + ReadingTold, H: Files, W: Write, E: Write>(
     let Call { alloc, system, .. } = call;
     let form = LinesOrJson::of(reporting.json);
     let (path, why) = (reporting.file, reporting.why);
-    let telling = Telling::of(reporting.progress, system.tells_terminal());
-    system.tell_reading(telling, path);
-    let mut faults = OwnLine {
-        system,
-        stream: faults,
-    };
-    let outcome = cmd_report(alloc, &form, why, path, files, answers, &mut faults);
+    tell_reading(system, reporting.progress, &[path]);
+    let outcome = cmd_report(alloc, &form, why, path, files, answers, faults);
     system.end_reading();
     outcome
+}
+
+// How much is read of the files at these paths is told from now on: at a terminal, or where that is asked for.
+pub(crate) fn tell_reading<S: Disk + ProgressTold>(system: &S, is_asked: bool, paths: &[&str]) {
+    let telling = Telling::of(is_asked, system.tells_terminal());
+    system.tell_reading(telling, paths);
 }

@@ -8,6 +8,9 @@ const LONGEST: usize = 48;
 // An entry has so many bytes.
 const ENTRY: usize = 3;
 
+// A table has so many states at most.
+const STATES: usize = 7;
+
 // What a word is like that is no table.
 #[derive(Clone, Copy, Debug, PartialEq, Eq)]
 pub(crate) enum Likeness {
@@ -15,6 +18,12 @@ pub(crate) enum Likeness {
     LowerCase,
     // A table of so many symbols, more than two.
     Symbols(usize),
+    // A table of so many states, more than seven.
+    States(usize),
+    // A table with this byte behind it.
+    Followed(u8),
+    // A table with spaces between its entries.
+    Spaced,
 }
 
 impl fmt::Display for Likeness {
@@ -24,6 +33,30 @@ impl fmt::Display for Likeness {
             Likeness::Symbols(count) => {
                 write!(f, "it is like a table of {count} symbols, and bb's have 2")
             }
+            Likeness::States(count) => {
+                write!(
+                    f,
+                    "it is like a table of {count} states, and bb's have 1 to 7"
+                )
+            }
+            Likeness::Followed(b'\r') => write!(f, "a CR is behind the table: --lenient takes it"),
+            Likeness::Followed(byte) if byte.is_ascii_graphic() => {
+                let character = char::from(*byte);
+                write!(
+                    f,
+                    "`{character}` is behind the table: bb tables takes the table alone"
+                )
+            }
+            Likeness::Followed(_) => {
+                write!(
+                    f,
+                    "a blank is behind the table: bb tables takes the table alone"
+                )
+            }
+            Likeness::Spaced => write!(
+                f,
+                "it is like a table with spaces, and bb's entries stand together: 1RB1LB_1LA---"
+            ),
         }
     }
 }
@@ -37,12 +70,52 @@ pub(crate) fn likeness_of(line: &[u8]) -> Option<Likeness> {
     if is_in_lower_case(word) {
         return Some(Likeness::LowerCase);
     }
-    let count = symbols_of(word)?;
-    Some(Likeness::Symbols(count))
+    if let Some(byte) = byte_behind(line) {
+        return Some(Likeness::Followed(byte));
+    }
+    if is_spaced(line) {
+        return Some(Likeness::Spaced);
+    }
+    match shape_of(word)? {
+        (states, 2) if states > STATES => Some(Likeness::States(states)),
+        (_, 2) => None,
+        (_, symbols) => Some(Likeness::Symbols(symbols)),
+    }
+}
+
+// The byte behind a table at a line's beginning, where it isn't the record's space.
+fn byte_behind(line: &[u8]) -> Option<u8> {
+    for states in 1..=STATES {
+        let (table, rest) = line.split_at_checked(7 * states - 1)?;
+        let byte = *rest.first()?;
+        let is_alone = byte != b' ' || rest.iter().all(|byte| *byte == b' ');
+        if !is_of_table(byte) && is_alone && Table::parse(table).is_ok() {
+            return Some(byte);
+        }
+    }
+    None
+}
+
+// Whether a line has entries alone, two of each of two states or more, with spaces between them.
+fn is_spaced(line: &[u8]) -> bool {
+    let mut count = 0_usize;
+    for word in line
+        .split(|byte| *byte == b' ')
+        .filter(|word| !word.is_empty())
+    {
+        if word.len() != ENTRY || !word.iter().all(|byte| is_of_table(*byte)) {
+            return false;
+        }
+        count = count.saturating_add(1);
+    }
+    count >= 4 && count % 2 == 0
 }
 
 // What the first of a text's words that are like tables is like.
 pub(crate) fn likeness_in(text: &[u8]) -> Option<Likeness> {
+    if is_spaced(text) {
+        return Some(Likeness::Spaced);
+    }
     for word in text.split(|byte| !is_of_table(byte.to_ascii_uppercase())) {
         let likeness = likeness_of(word);
         if likeness.is_some() {
@@ -64,19 +137,23 @@ fn is_in_lower_case(word: &[u8]) -> bool {
     Table::parse(&upper[..word.len()]).is_ok()
 }
 
-// How many symbols a table has whose rows, of three entries or more, are as long as one another.
-fn symbols_of(word: &[u8]) -> Option<usize> {
+// How many states and symbols a table has whose rows, of two entries or more, are as long as one another.
+fn shape_of(word: &[u8]) -> Option<(usize, usize)> {
     let row = word
         .iter()
         .position(|byte| *byte == b'_')
         .unwrap_or(word.len());
-    let is_table = row > 2 * ENTRY
+    let is_table = row >= 2 * ENTRY
         && row % ENTRY == 0
         && word.iter().enumerate().all(|(place, byte)| {
             (place % (row + 1) == row) == (*byte == b'_') && is_of_table(*byte)
         })
         && word.len() % (row + 1) == row;
-    if is_table { Some(row / ENTRY) } else { None }
+    if is_table {
+        Some(((word.len() + 1) / (row + 1), row / ENTRY))
+    } else {
+        None
+    }
 }
 
 // Whether a byte may stand in a table of however many symbols and states.

@@ -15,10 +15,7 @@ use find_search::{AnyFinder, decider_for};
 use std::alloc::Global;
 use std::io::{Read, Write};
 use std::time::Clock;
-use system::{CountedDecider, Telling, TimedProgress, Work};
-
-// The most steps of a search.
-const MAX_STEPS: u64 = 100_000_000;
+use system::{CountedDecider, ProgressTold, Telling, TimedProgress, Work};
 
 // `bb check`, with `--json` or `--why` or without.
 pub(crate) fn check<S: Disk, R: Read, W: Write, E: Write>(
@@ -42,14 +39,14 @@ pub(crate) fn check<S: Disk, R: Read, W: Write, E: Write>(
 }
 
 // `bb decide`; how many tables are decided is told on `faults`, where that is wanted.
-pub(crate) fn decide<S: Disk + Clock, R: Read, W: Write, E: Write>(
+pub(crate) fn decide<S: Disk + Clock + ProgressTold, R: Read, W: Write, E: Write>(
     call: Call<'_, S>,
     deciding: &Deciding<'_>,
     input: &mut R,
     answers: &mut W,
     faults: &mut E,
 ) -> Result<Outcome, Ended>
-    ensures { DoesDecide (answers_counted S E ⟦<Finders<AnyFinder<'static>> as Decider>⟧.answers)
+    ensures { DoesDecide (answers_counted S ⟦<Finders<AnyFinder<'static>> as Decider>⟧.answers)
         deciding.now.json deciding.now.keep (input_of (R.remaining input.old) (R.remaining input.new))
         (output_of (W.contents answers.old) (W.contents answers.new) (E.contents faults.old)
         (E.contents faults.new)) result }
@@ -62,7 +59,7 @@ pub(crate) fn decide<S: Disk + Clock, R: Read, W: Write, E: Write>(
     let mut decider = decider_for(alloc, known, &reach_of(deciding))?;
     let mut late = Late::new(alloc)?;
     let telling = Telling::of(deciding.progress, system.tells_terminal());
-    let progress = TimedProgress::new(alloc, telling, Work::Tables, system, &mut *faults);
+    let progress = TimedProgress::new(alloc, telling, Work::Tables, system);
     let mut told = CountedDecider::new(&mut decider, progress);
     let ended = decided(
         alloc,
@@ -87,7 +84,7 @@ fn reach_of<'a>(deciding: &Deciding<'a>) -> Search<'a>
     };
     Search {
         known: deciding.search.known,
-        steps: steps.min(MAX_STEPS),
+        steps,
         depth: 0,
         gram: 0,
         far: 0,
@@ -95,6 +92,7 @@ fn reach_of<'a>(deciding: &Deciding<'a>) -> Search<'a>
         count: 0,
         rules: 0,
         hard: false,
+        long_run: deciding.search.long_run,
     }
 }
 

@@ -37,8 +37,6 @@ pub(crate) struct Manner {
     pub name: &'static str,
     pub source: Source,
     pub lines: Lines,
-    // What is cut off its ledger isn't said unasked.
-    pub is_terse: bool,
 }
 
 impl Manner {
@@ -48,14 +46,6 @@ impl Manner {
             name: name_of(asked),
             source: source_of(asked),
             lines: lines_of(asked),
-            is_terse: matches!(
-                asked,
-                Options::Coord { .. }
-                    | Options::CoordPart(_)
-                    | Options::Run { .. }
-                    | Options::Loop { .. }
-                    | Options::Retry(_)
-            ),
         }
     }
 }
@@ -75,6 +65,7 @@ fn name_of(asked: &Options<'_>) -> &'static str {
         Options::Mend(_) => "mend - OUT",
         Options::Join(_) => "join -",
         Options::Look(_) => "look PATH",
+        Options::Settle(_) => "settle",
         Options::Coord { .. }
         | Options::CoordPart(_)
         | Options::Work(_)
@@ -84,14 +75,14 @@ fn name_of(asked: &Options<'_>) -> &'static str {
         | Options::Retry(_)
         | Options::Merge(_)
         | Options::Carry(_)
-        | Options::Split(_)
-        | Options::Settle(_) => "",
+        | Options::Split(_) => "",
     }
 }
 
 fn source_of(asked: &Options<'_>) -> Source {
     match asked {
         Options::Page(paging) if paging.ledger.is_none() => Source::Lines,
+        Options::Look(looking) if looking.holdouts => Source::Ledger,
         Options::Page(_) | Options::Report(_) | Options::Mend(_) => Source::LedgerOrInput,
         Options::Join(_) => Source::LedgersOrInput,
         Options::Check(_)

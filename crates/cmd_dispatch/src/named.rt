@@ -1,6 +1,8 @@
-// Streams of which it is remembered what of them fails.
+// Streams of which it is remembered what of them fails. What is written has a line of its own: the one that tells how far the
+// command is, is taken off the terminal first.
 use files::Disk;
-use std::io::{self, ErrorKind, Read, Write};
+use std::io::{self, Error, ErrorKind, Read, Write};
+use system::ProgressTold;
 
 // A stream under its name.
 #[derive(Drop)]
@@ -28,18 +30,29 @@ impl<D: Disk, S: Read> Read for Named<'_, D, S> {
     }
 }
 
-impl<D: Disk, S: Write> Write for Named<'_, D, S> {
+impl<D: Disk, S> Named<'_, D, S> {
+    // Who reads no more, as `head`, needs no words for it.
+    fn remember(&self, fault: &Error) {
+        if fault.kind() == ErrorKind::BrokenPipe {
+            let _ = self.disk.reason();
+        } else {
+            self.disk.remember(self.name, fault);
+        }
+    }
+}
+
+impl<D: Disk + ProgressTold, S: Write> Write for Named<'_, D, S> {
     fn write(&mut self, buf: &[u8]) -> io::Result<usize> {
+        self.disk.clear();
         match self.stream.write(buf) {
             Ok(count) => {
                 if count == 0 && !buf.is_empty() {
-                    let fault = io::Error::from(ErrorKind::WriteZero);
-                    self.disk.remember(self.name, &fault);
+                    self.remember(&Error::from(ErrorKind::WriteZero));
                 }
                 Ok(count)
             }
             Err(fault) => {
-                self.disk.remember(self.name, &fault);
+                self.remember(&fault);
                 Err(fault)
             }
         }
@@ -49,7 +62,7 @@ impl<D: Disk, S: Write> Write for Named<'_, D, S> {
         match self.stream.flush() {
             Ok(()) => Ok(()),
             Err(fault) => {
-                self.disk.remember(self.name, &fault);
+                self.remember(&fault);
                 Err(fault)
             }
         }

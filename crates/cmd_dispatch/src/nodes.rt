@@ -22,7 +22,7 @@ use lease_core::Worker;
 use std::alloc::Global;
 use std::io::{self, Read, Write};
 use std::time::Clock;
-use system::{Telling, TimedProgress, Work};
+use system::{ProgressTold, Telling, TimedProgress, Work};
 use wire::{LedgerOut, Node, Out};
 
 /// A worker that asks all finders.
@@ -96,7 +96,7 @@ fn coord_kept<H: Files, R: Read, W: Write, E: Write>(
 
 // `bb run` and `bb loop`.
 #[tactic(auto, using(crate::proofs::Running::with_workers))]
-pub(crate) fn run<S: Disk + Clock + Sockets, H: Files, W: Write, E: Write>(
+pub(crate) fn run<S: Disk + Clock + ProgressTold + Sockets, H: Files, W: Write, E: Write>(
     call: Call<'_, S>,
     links: Links,
     settling: &Settling<'_>,
@@ -133,7 +133,7 @@ struct Running<'a> {
 
 // With a ledger.
 #[tactic(auto, using(crate::proofs::Running::ran_kept))]
-fn run_kept<N: Node + Drop, S: Disk + Clock + Sockets, H: Files, W: Write, E: Write>(
+fn run_kept<N: Node + Drop, S: Disk + Clock + ProgressTold + Sockets, H: Files, W: Write, E: Write>(
     call: Call<'_, S>,
     running: Running<'_>,
     workers: Vec<N>,
@@ -172,7 +172,13 @@ fn run_kept<N: Node + Drop, S: Disk + Clock + Sockets, H: Files, W: Write, E: Wr
 
 // Without one.
 #[tactic(auto, using(crate::proofs::Running::ran_alone))]
-fn run_alone<N: Node + Drop, S: Disk + Clock + Sockets, H: Files, W: Write, E: Write>(
+fn run_alone<
+    N: Node + Drop,
+    S: Disk + Clock + ProgressTold + Sockets,
+    H: Files,
+    W: Write,
+    E: Write,
+>(
     call: Call<'_, S>,
     running: Running<'_>,
     workers: Vec<N>,
@@ -204,7 +210,7 @@ fn run_alone<N: Node + Drop, S: Disk + Clock + Sockets, H: Files, W: Write, E: W
 // Settles the tree with some workers, over what a ledger held.
 fn run_over<
     N: Node + Drop,
-    S: Disk + Clock + Sockets,
+    S: Disk + Clock + ProgressTold + Sockets,
     F: Read + Drop,
     L: LedgerOut,
     W: Write,
@@ -228,7 +234,7 @@ fn run_over<
     let Call { alloc, system, .. } = call;
     let settling = running.settling;
     let telling = Telling::of(settling.progress, system.tells_terminal());
-    let mut progress = TimedProgress::new(alloc, telling, Work::Tree, system, &mut *faults);
+    let mut progress = TimedProgress::new(alloc, telling, Work::Tree, system);
     let outcome = run_by(
         call,
         running,

@@ -9,27 +9,31 @@ use crate::heard::Heard;
 use crate::lenient::Lenient;
 use crate::manner::{Manner, Source};
 use crate::named::Named;
+use crate::reasons::reason_of;
 use crate::shared::Shared;
 use crate::sourced::obeyed_by_source;
 use cmd_nodes::{Network, Sockets};
 use cmd_options::{Ended, NoMemory, Outcome};
+use cmd_parts::trunk_path;
 use cmd_words::{CommandLine, LineFault, Source as LinesFrom, command_line};
 use files::{Disk, OnDisk};
 use std::alloc::Global;
 use std::io::{Read, Write};
 use std::time::Clock;
-use system::{Oddity, ReadingTold, Saying, Wording};
+use system::{Oddity, ProgressTold, Saying};
 
 /// Does what the words ask for, the program's name first, and answers how it ended. Each end is an
-/// `Outcome`: a line that can't be read or is refused too, and a stream that fails.
+/// `Outcome`: a line that can't be read or is refused too, and a stream that fails. Behind the version stands of which sources
+/// the program is.
 pub fn obey<
-    S: Disk + Clock + Sockets + Network + ReadingTold + Saying,
+    S: Disk + Clock + Sockets + Network + ProgressTold + Saying,
     R: Read,
     W: Write,
     E: Write,
 >(
     alloc: Global,
     words: Result<Vec<String>, LineFault>,
+    sources: &str,
     system: &S,
     input: &mut R,
     answers: &mut W,
@@ -41,19 +45,65 @@ pub fn obey<
         Ok(words) => words,
         Err(fault) => return fault.told(alloc, answers, faults),
     };
+    let words = match joined(alloc, words) {
+        Ok(words) => words,
+        Err(_) => return Ended::NoMemory.told(faults),
+    };
     let line = match line_of(alloc, &words) {
         Ok(line) => line,
         Err(_) => return Ended::NoMemory.told(faults),
     };
     match command_line(alloc, &line) {
         Ok(line) => obeyed_by_source(alloc, &line, system, input, answers, faults),
-        Err(fault) => fault.told(alloc, answers, faults),
+        Err(fault) => {
+            let outcome = unread(alloc, fault, sources, system, answers, faults);
+            tell_reason(system, outcome, &Shared::of(faults));
+            outcome
+        }
+    }
+}
+
+// What a line is answered that asks for nothing: help, the version, or what is wrong with it.
+fn unread<S: Disk + ProgressTold, W: Write, E: Write>(
+    alloc: Global,
+    fault: LineFault,
+    sources: &str,
+    system: &S,
+    answers: &mut W,
+    faults: &mut E,
+) -> Outcome {
+    let mut answers = Named::of(system, "standard output", answers);
+    if fault.is_version() {
+        version_told(alloc, fault, sources, &mut answers, faults)
+    } else {
+        fault.told(alloc, &mut answers, faults)
+    }
+}
+
+// The version, and behind it of which sources the program is.
+fn version_told<W: Write, E: Write>(
+    alloc: Global,
+    fault: LineFault,
+    sources: &str,
+    answers: &mut W,
+    faults: &mut E,
+) -> Outcome {
+    let outcome = fault.told(alloc, answers, faults);
+    if outcome != Outcome::Accepted {
+        return outcome;
+    }
+    let Ok(line) = format!(in alloc; "sources {sources}\n") else {
+        return Ended::NoMemory.told(faults);
+    };
+    match answers.write_all(line.as_bytes()) {
+        Ok(()) => outcome,
+        Err(_) => Ended::Stream.told(faults),
     }
 }
 
 // Does what a line asks for, over this input, and says what there is to say of how it ended.
 pub(crate) fn obeyed<
-    S: Disk + Clock + Sockets + Network + ReadingTold + Saying,
+    S: Disk + Clock + Sockets + Network + ProgressTold + Saying,
     R: Read,
     W: Write,
     E: Write,
@@ -68,26 +118,23 @@ pub(crate) fn obeyed<
     requires { AreWithinRanges line.now.asked }
 {
     let manner = Manner::of(&line.asked);
-    let words = Wording {
-        why: line.why,
-        is_terse: manner.is_terse,
-    };
-    system.say(words);
+    system.say_all(line.why);
     let shared = Shared::of(faults);
-    let lines = if line.why { Some(manner.lines) } else { None };
-    let mut heard = Heard::of(alloc, input, manner.source, lines, line.lenient, &shared);
+    let mut heard = Heard::of(alloc, input, manner, line, &shared);
     let outcome = taken(alloc, line, system, &mut heard, answers, &shared);
-    // By what input is compressed says more than that its data are invalid.
-    if !heard.is_packed() {
+    heard.tell_rest();
+    // What input is says more than that its data are invalid.
+    if !heard.has_no_lines() {
         tell_reason(system, outcome, &shared);
     }
+    tell_refused(alloc, line, system, heard.beginning(), &shared);
     let oddity = heard.oddity();
     tell_oddities(alloc, line, system, outcome, oddity, &shared);
     outcome
 }
 
 // Takes the lines as they are, or leniently.
-fn taken<S: Disk + Clock + Sockets + Network + ReadingTold, R: Read, W: Write, E: Write>(
+fn taken<S: Disk + Clock + Sockets + Network + ProgressTold, R: Read, W: Write, E: Write>(
     alloc: Global,
     line: &CommandLine<'_>,
     system: &S,
@@ -107,7 +154,7 @@ fn taken<S: Disk + Clock + Sockets + Network + ReadingTold, R: Read, W: Write, E
 }
 
 // Does what is asked for; which of the streams fails is remembered.
-fn carried_out<S: Disk + Clock + Sockets + Network + ReadingTold, R: Read, W: Write, E: Write>(
+fn carried_out<S: Disk + Clock + Sockets + Network + ProgressTold, R: Read, W: Write, E: Write>(
     alloc: Global,
     line: &CommandLine<'_>,
     system: &S,
@@ -145,6 +192,22 @@ pub(crate) fn tell_reason<S: Disk, E: Write>(system: &S, outcome: Outcome, fault
     }
 }
 
+// Where a ledger or a root was refused, says why.
+fn tell_refused<S: Disk, E: Write>(
+    alloc: Global,
+    line: &CommandLine<'_>,
+    system: &S,
+    of_input: &[u8],
+    faults: &Shared<'_, E>,
+) {
+    // What can't be said for want of memory isn't.
+    if faults.has_refused()
+        && let Ok(Some(reason)) = reason_of(alloc, system, &line.asked, of_input)
+    {
+        faults.say(&reason);
+    }
+}
+
 // Where a command failed or refused something, says what was odd of what it read, and which command to give in its place.
 fn tell_oddities<S: Disk + Saying, E: Write>(
     alloc: Global,
@@ -160,20 +223,27 @@ fn tell_oddities<S: Disk + Saying, E: Write>(
         Outcome::Refused => line.why || system.tells_terminal(),
         Outcome::Accepted | Outcome::BadLine | Outcome::NoMemory => return,
     };
+    if !is_said && manner.source != Source::Lines {
+        return;
+    }
     if let Some(odd) = system.odd() {
-        if is_said || manner.source == Source::Lines {
-            tell(alloc, line, Place::File(&odd.name), odd.oddity, faults);
-        }
-    } else if let Some(oddity) = of_input
-        && (is_said || manner.source == Source::Lines)
-    {
-        tell(alloc, line, Place::Input, oddity, faults);
+        tell(
+            alloc,
+            line,
+            system,
+            Place::File(&odd.name),
+            odd.oddity,
+            faults,
+        );
+    } else if let Some(oddity) = of_input {
+        tell(alloc, line, system, Place::Input, oddity, faults);
     }
 }
 
-fn tell<E: Write>(
+fn tell<S: Disk, E: Write>(
     alloc: Global,
     line: &CommandLine<'_>,
+    system: &S,
     place: Place<'_>,
     oddity: Oddity,
     faults: &Shared<'_, E>,
@@ -181,10 +251,37 @@ fn tell<E: Write>(
     if line.lenient && oddity == Oddity::CarriageReturn {
         return;
     }
+    let has_parts = match place {
+        Place::File(path) => has_trunk(alloc, system, path),
+        Place::Input => false,
+    };
     // What can't be said for want of memory isn't.
-    if let Ok(told) = advice(alloc, Manner::of(&line.asked), place, oddity) {
+    if let Ok(told) = advice(alloc, Manner::of(&line.asked), place, oddity, has_parts) {
         faults.say(&told);
     }
+}
+
+// Whether a trunk is in the folder at a path.
+fn has_trunk<S: Disk>(alloc: Global, system: &S, path: &str) -> bool {
+    match trunk_path(alloc, path) {
+        Ok(trunk) => system.is_taken(&trunk),
+        Err(_) => false,
+    }
+}
+
+// The words, where a table behind `--root` that begins with an empty entry is one word with it: clap would take it for an option.
+fn joined(alloc: Global, words: Vec<String>) -> Result<Vec<String>, NoMemory> {
+    let mut line: Vec<String> = Vec::new(alloc);
+    for word in words {
+        match line.last_mut() {
+            Some(last) if last.as_str() == "--root" && word.starts_with("---") => {
+                last.push_str("=")?;
+                last.push_str(&word)?;
+            }
+            _ => line.push(word)?,
+        }
+    }
+    Ok(line)
 }
 
 fn line_of(alloc: Global, words: &[String]) -> Result<Vec<&str>, NoMemory> {

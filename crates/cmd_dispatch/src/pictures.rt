@@ -6,7 +6,7 @@ ghost use Rattle.cmd_dispatch.specs.Lines.{Draws};
 ghost use Rattle.cmd_dispatch.specs.Pages.{Pages, PagesAt, PagesLedger, PagesPath, PagesRead, PagesStream};
 
 use crate::call::Call;
-use crate::ledgers::STANDARD_INPUT;
+use crate::ledgers::{STANDARD_INPUT, tell_reading};
 use crate::titles::{name_at, title_of};
 use cmd_options::{Drawing, Ended, Outcome, Paging, VERSION, ended_by};
 use cmd_page::{Maker, folder_page_at, record_page_for, write_ledger_page};
@@ -14,6 +14,7 @@ use cmd_show::cmd_draw;
 use files::{Disk, Files};
 use std::alloc::Global;
 use std::io::{Read, Write};
+use system::ProgressTold;
 
 // `bb draw`.
 pub(crate) fn draw<H: Files, R: Read, W: Write, E: Write>(
@@ -33,7 +34,7 @@ pub(crate) fn draw<H: Files, R: Read, W: Write, E: Write>(
 }
 
 // `bb page`, of the ledger at a path, or of the records of `input`.
-pub(crate) fn page<S: Disk, H: Files, R: Read, W: Write, E: Write>(
+pub(crate) fn page<S: Disk + ProgressTold, H: Files, R: Read, W: Write, E: Write>(
     call: Call<'_, S>,
     paging: &Paging<'_>,
     files: &H,
@@ -59,7 +60,7 @@ pub(crate) fn page<S: Disk, H: Files, R: Read, W: Write, E: Write>(
 }
 
 // Of the ledger on `input`, or at a path.
-fn page_read<S: Disk, H: Files, R: Read, W: Write, E: Write>(
+fn page_read<S: Disk + ProgressTold, H: Files, R: Read, W: Write, E: Write>(
     call: Call<'_, S>,
     paging: &Paging<'_>,
     path: &str,
@@ -107,7 +108,7 @@ fn page_stream<S: Disk, R: Read, W: Write, E: Write>(
 }
 
 // At a path.
-fn page_path<S: Disk, H: Files, W: Write, E: Write>(
+fn page_path<S: Disk + ProgressTold, H: Files, W: Write, E: Write>(
     call: Call<'_, S>,
     paging: &Paging<'_>,
     path: &str,
@@ -125,7 +126,10 @@ fn page_path<S: Disk, H: Files, W: Write, E: Write>(
     };
     let name = name_at(path);
     let title = title_of(paging.title, name);
-    page_at(call.alloc, &maker, path, title, files, answers, faults)
+    tell_reading(call.system, paging.progress, &[path]);
+    let ended = page_at(call.alloc, &maker, path, title, files, answers, faults);
+    call.system.end_reading();
+    ended
 }
 
 // Of the folder or the file at a path.

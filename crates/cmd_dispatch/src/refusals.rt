@@ -8,6 +8,7 @@ use cmd_explain::why_of;
 use cmd_lines::LineTaker;
 use cmd_options::{Ended, NoMemory};
 use cmd_show::table_asked;
+use cmd_words::CommandLine;
 use machine_text::{Table, TextFault};
 use std::alloc::Global;
 use std::io::Write;
@@ -19,6 +20,10 @@ pub(crate) struct Refusals<'a, 'b, E> {
     lines: Lines,
     // whether blank lines and comments are passed over
     is_lenient: bool,
+    // whether it is said of each line
+    why: bool,
+    // what is said behind the answer
+    rest: Option<String>,
     // how many lines there were, and whether one of them is drawn
     count: u64,
     has_drawn: bool,
@@ -42,23 +47,37 @@ impl<'a, 'b, E: Write> Refusals<'a, 'b, E> {
     pub fn new(
         alloc: Global,
         lines: Lines,
-        is_lenient: bool,
+        line: &CommandLine<'_>,
         faults: &'a Shared<'b, E>,
     ) -> Refusals<'a, 'b, E> {
         Refusals {
             alloc,
             lines,
-            is_lenient,
+            is_lenient: line.lenient,
+            why: line.why,
+            rest: None,
             count: 0,
             has_drawn: false,
             faults,
         }
     }
 
+    // Says what belongs behind the answer.
+    pub fn tell_rest(&mut self) {
+        if let Some(rest) = self.rest.take() {
+            self.faults.say(&rest);
+        }
+    }
+
     // Why the next line is refused, if it is.
     fn refusal_of(&mut self, line: Option<&[u8]>) -> Result<Option<Refusal>, NoMemory> {
         let Some(text) = line else {
-            return Ok(Some(Refusal::TooLong));
+            // The command says it itself.
+            return Ok(if self.lines == Lines::Others {
+                None
+            } else {
+                Some(Refusal::TooLong)
+            });
         };
         match self.refusal_by_text(line, text)? {
             Some(refusal) => match likeness_of(text) {
@@ -153,9 +172,13 @@ impl<E: Write> LineTaker for Refusals<'_, '_, E> {
             },
             taken => taken,
         };
-        if let Some(refusal) = self.refusal_of(line)? {
-            let told = self.told(&refusal)?;
-            self.faults.say(&told);
+        match self.refusal_of(line)? {
+            Some(Refusal::AfterOne) => self.rest = Some(self.told(&Refusal::AfterOne)?),
+            Some(refusal) if self.why => {
+                let told = self.told(&refusal)?;
+                self.faults.say(&told);
+            }
+            _ => {}
         }
         Ok(())
     }

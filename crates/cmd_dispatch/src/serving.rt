@@ -19,11 +19,11 @@ use files::{Disk, Files, Opened, ledger_at, lock_ledger};
 use peers::{Conduct, Connections};
 use std::io::{self, Read, Write};
 use std::time::Clock;
-use system::{Telling, TimedProgress, Work};
+use system::{ProgressTold, Telling, TimedProgress, Work};
 use wire::LedgerOut;
 
 // Of the tree of the empty table.
-pub(crate) fn serve<S: Disk + Clock + Network, H: Files, W: Write, E: Write>(
+pub(crate) fn serve<S: Disk + Clock + ProgressTold + Network, H: Files, W: Write, E: Write>(
     call: Call<'_, S>,
     beginning: Beginning,
     ledger: Option<LedgerFile<'_>>,
@@ -65,7 +65,7 @@ struct Served<'a> {
 }
 
 // Begins and ends; an error of its own where it can't begin.
-fn serve_begun<S: Disk + Clock, H: Files, K: Connections, W: Write, E: Write>(
+fn serve_begun<S: Disk + Clock + ProgressTold, H: Files, K: Connections, W: Write, E: Write>(
     call: Call<'_, S>,
     served: Served<'_>,
     ledger: Option<LedgerFile<'_>>,
@@ -92,7 +92,7 @@ fn serve_begun<S: Disk + Clock, H: Files, K: Connections, W: Write, E: Write>(
 
 // With a ledger.
 #[tactic(auto, using(crate::proofs::Running::served_kept))]
-fn serve_kept<S: Disk + Clock, H: Files, K: Connections, W: Write, E: Write>(
+fn serve_kept<S: Disk + Clock + ProgressTold, H: Files, K: Connections, W: Write, E: Write>(
     call: Call<'_, S>,
     served: Served<'_>,
     file: LedgerFile<'_>,
@@ -131,7 +131,7 @@ fn serve_kept<S: Disk + Clock, H: Files, K: Connections, W: Write, E: Write>(
 
 // Without one.
 #[tactic(auto, using(crate::proofs::Running::served_alone))]
-fn serve_alone<S: Disk + Clock, H: Files, K: Connections, W: Write, E: Write>(
+fn serve_alone<S: Disk + Clock + ProgressTold, H: Files, K: Connections, W: Write, E: Write>(
     call: Call<'_, S>,
     served: Served<'_>,
     connections: &mut K,
@@ -164,20 +164,27 @@ fn serve_alone<S: Disk + Clock, H: Files, K: Connections, W: Write, E: Write>(
 }
 
 // Over what a ledger held.
-fn serve_over<S: Disk + Clock, F: Read + Drop, L: LedgerOut, K: Connections, W: Write, E: Write>(
+fn serve_over<
+    S: Disk + Clock + ProgressTold,
+    F: Read + Drop,
+    L: LedgerOut,
+    K: Connections,
+    W: Write,
+    E: Write,
+>(
     call: Call<'_, S>,
     served: Served<'_>,
     held: io::Result<Opened<F>>,
     ledger: &mut L,
     connections: &mut K,
     answers: &mut W,
-    faults: &mut E,
+    _faults: &mut E,
 ) -> Result<Outcome, Ended>
     requires { IsBeginning served.beginning }
     ensures { ServesOver F.remaining K.takes (λ c. traffic (K.arrived c) (K.sent c)) served.entry.beginning
         served.entry.listening served.entry.conduct connections.old connections.new held (L.text ledger.old)
-        (L.text ledger.new) (output_of (W.contents answers.old) (W.contents answers.new) (E.contents faults.old)
-        (E.contents faults.new)) result }
+        (L.text ledger.new) (output_of (W.contents answers.old) (W.contents answers.new) (E.contents _faults.old)
+        (E.contents _faults.new)) result }
 {
     let listening = served.listening;
     let form = LinesOrJson::of(listening.json);
@@ -187,7 +194,7 @@ fn serve_over<S: Disk + Clock, F: Read + Drop, L: LedgerOut, K: Connections, W: 
         conduct: served.conduct,
     };
     let telling = Telling::of(listening.progress, call.system.tells_terminal());
-    let mut progress = TimedProgress::new(call.alloc, telling, Work::Tree, call.system, faults);
+    let mut progress = TimedProgress::new(call.alloc, telling, Work::Tree, call.system);
     let ended = serve_tree(
         call.alloc,
         serving,
@@ -203,7 +210,7 @@ fn serve_over<S: Disk + Clock, F: Read + Drop, L: LedgerOut, K: Connections, W: 
 
 // Of a part, whose ledger has to be there.
 #[tactic(auto, using(crate::proofs::Keeping::continued))]
-pub(crate) fn serve_ledger<S: Disk + Clock + Network, H: Files, W: Write, E: Write>(
+pub(crate) fn serve_ledger<S: Disk + Clock + ProgressTold + Network, H: Files, W: Write, E: Write>(
     call: Call<'_, S>,
     coordinating: PartCoordinating<'_>,
     files: &mut H,
@@ -235,7 +242,14 @@ pub(crate) fn serve_ledger<S: Disk + Clock + Network, H: Files, W: Write, E: Wri
 }
 
 // Over what its ledger held.
-fn serve_held<S: Disk + Clock, F: Read + Drop, L: LedgerOut, K: Connections, W: Write, E: Write>(
+fn serve_held<
+    S: Disk + Clock + ProgressTold,
+    F: Read + Drop,
+    L: LedgerOut,
+    K: Connections,
+    W: Write,
+    E: Write,
+>(
     call: Call<'_, S>,
     coordinating: PartCoordinating<'_>,
     conduct: Conduct,
@@ -243,13 +257,13 @@ fn serve_held<S: Disk + Clock, F: Read + Drop, L: LedgerOut, K: Connections, W: 
     ledger: &mut L,
     connections: &mut K,
     answers: &mut W,
-    faults: &mut E,
+    _faults: &mut E,
 ) -> Result<Outcome, Ended>
     ensures { ServesHeld K.takes (λ c. traffic (K.arrived c)
         (K.sent c)) coordinating.entry conduct connections.old connections.new
         (F.remaining held.reader) held.length (L.text ledger.old) (L.text ledger.new)
-        (output_of (W.contents answers.old) (W.contents answers.new) (E.contents faults.old)
-        (E.contents faults.new)) result }
+        (output_of (W.contents answers.old) (W.contents answers.new) (E.contents _faults.old)
+        (E.contents _faults.new)) result }
 {
     let listening = coordinating.listening;
     let form = LinesOrJson::of(listening.json);
@@ -259,7 +273,7 @@ fn serve_held<S: Disk + Clock, F: Read + Drop, L: LedgerOut, K: Connections, W: 
         conduct,
     };
     let telling = Telling::of(listening.progress, call.system.tells_terminal());
-    let mut progress = TimedProgress::new(call.alloc, telling, Work::Tree, call.system, faults);
+    let mut progress = TimedProgress::new(call.alloc, telling, Work::Tree, call.system);
     let ended = serve_part(
         call.alloc,
         serving,

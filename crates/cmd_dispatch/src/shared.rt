@@ -8,6 +8,8 @@ pub(crate) struct Shared<'a, E> {
     stream: RefCell<&'a mut E>,
     // Whether the last line that was written has ended.
     is_ended: Cell<bool>,
+    // Whether a command said that a ledger's header or a root was refused.
+    has_refused: Cell<bool>,
 }
 
 impl<'a, E: Write> Shared<'a, E> {
@@ -15,12 +17,18 @@ impl<'a, E: Write> Shared<'a, E> {
         Shared {
             stream: RefCell::new(stream),
             is_ended: Cell::new(true),
+            has_refused: Cell::new(false),
         }
     }
 
     // One who writes to it.
     pub fn writer(&self) -> SharedWriter<'_, 'a, E> {
         SharedWriter { shared: self }
+    }
+
+    // Whether a command said that a ledger's header or a root was refused.
+    pub fn has_refused(&self) -> bool {
+        self.has_refused.get()
     }
 
     // Says a line beside what the command says. Nothing hangs on whether it can be said.
@@ -45,6 +53,9 @@ impl<E: Write> Write for SharedWriter<'_, '_, E> {
             return Err(io::Error::from(ErrorKind::ResourceBusy));
         };
         let count = stream.write(buf)?;
+        if buf.starts_with(b"refused 404\n") || buf.starts_with(b"refused 405\n") {
+            self.shared.has_refused.set(true);
+        }
         if let Some(last) = buf[..count.min(buf.len())].last() {
             self.shared.is_ended.set(*last == b'\n');
         }

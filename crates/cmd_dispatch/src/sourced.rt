@@ -1,6 +1,7 @@
 // A command over the lines that its command line names: on standard input, in a file, or its own arguments.
 ghost use Rattle.cmd_options.specs.Ranges.{AreWithinRanges};
 
+use crate::manner::{Manner, Source as Reads};
 use crate::obeying::{obeyed, tell_reason};
 use crate::shared::Shared;
 use cmd_nodes::{Network, Sockets};
@@ -10,11 +11,11 @@ use files::Disk;
 use std::alloc::Global;
 use std::io::{Read, Write};
 use std::time::Clock;
-use system::{ReadingTold, Saying};
+use system::{ProgressTold, Saying};
 
 // Does what a line asks for, over its lines.
 pub(crate) fn obeyed_by_source<
-    S: Disk + Clock + Sockets + Network + ReadingTold + Saying,
+    S: Disk + Clock + Sockets + Network + ProgressTold + Saying,
     R: Read,
     W: Write,
     E: Write,
@@ -29,7 +30,12 @@ pub(crate) fn obeyed_by_source<
     requires { AreWithinRanges line.now.asked }
 {
     match &line.source {
-        Source::Standard => obeyed(alloc, line, system, input, answers, faults),
+        Source::Standard => {
+            if Manner::of(&line.asked).source == Reads::Lines {
+                system.tell_waiting();
+            }
+            obeyed(alloc, line, system, input, answers, faults)
+        }
         Source::File(path) => obeyed_in_file(alloc, line, path, system, answers, faults),
         Source::Lines(lines) => match text_of(alloc, lines) {
             Ok(text) => obeyed(alloc, line, system, &mut text.as_slice(), answers, faults),
@@ -39,7 +45,7 @@ pub(crate) fn obeyed_by_source<
 }
 
 // Over the lines of a file, which has to be there.
-fn obeyed_in_file<S: Disk + Clock + Sockets + Network + ReadingTold + Saying, W: Write, E: Write>(
+fn obeyed_in_file<S: Disk + Clock + Sockets + Network + ProgressTold + Saying, W: Write, E: Write>(
     alloc: Global,
     line: &CommandLine<'_>,
     path: &str,

@@ -42,8 +42,7 @@ pub(crate) fn show<R: Read, W: Write, E: Write>(
     answers: &mut W,
     faults: &mut E,
 ) -> Result<Outcome, Ended>
-    ensures { DoesShow showing.now (input_of (R.remaining input.old) (R.remaining input.new))
-        (output_of (W.contents answers.old) (W.contents answers.new) (E.contents faults.old)
+    ensures { DoesShow (output_of (W.contents answers.old) (W.contents answers.new) (E.contents faults.old)
         (E.contents faults.new)) result }
 {
     Ok(cmd_show(alloc, showing, input, answers, faults))

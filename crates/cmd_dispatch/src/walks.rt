@@ -18,14 +18,21 @@ use files::{Disk, Files, ledger_at, lock_ledger};
 use find_search::{AnyFinder, SavingDecider, decider_for};
 use machine_text::Table;
 use std::alloc::Global;
-use std::io::Write;
+use std::io::{self, Read, Write};
 use std::time::Clock;
-use system::{Telling, TimedProgress, Work};
+use system::{ProgressTold, Telling, TimedProgress, Work};
 use tnf::root;
+use wire::append_all;
+
+// What a ledger begins with.
+const HEADER: &[u8] = b"bb-ledger";
+
+// How many bytes are read at once.
+const PIECE: usize = 4_096;
 
 // `bb walk`.
 #[tactic(auto, using(crate::proofs::Saving::found_or_saved))]
-pub(crate) fn walk<S: Disk + Clock, H: Files, W: Write, E: Write>(
+pub(crate) fn walk<S: Disk + Clock + ProgressTold, H: Files, W: Write, E: Write>(
     call: Call<'_, S>,
     walking: &Walking<'_>,
     files: &mut H,
@@ -51,7 +58,7 @@ pub(crate) fn walk<S: Disk + Clock, H: Files, W: Write, E: Write>(
 }
 
 // Keeps no record.
-fn walk_found<S: Disk + Clock, W: Write, E: Write>(
+fn walk_found<S: Disk + Clock + ProgressTold, W: Write, E: Write>(
     call: Call<'_, S>,
     walking: &Walking<'_>,
     root: Table,
@@ -84,7 +91,7 @@ fn walk_found<S: Disk + Clock, W: Write, E: Write>(
 }
 
 // Saves the dear ones.
-fn walk_saved<S: Disk + Clock, H: Files, W: Write, E: Write>(
+fn walk_saved<S: Disk + Clock + ProgressTold, H: Files, W: Write, E: Write>(
     call: Call<'_, S>,
     walking: &Walking<'_>,
     saving: Saving<'_>,
@@ -124,7 +131,8 @@ fn walk_saved<S: Disk + Clock, H: Files, W: Write, E: Write>(
     Ok(late.say(outcome, faults))
 }
 
-// The file to which records are saved, locked. A walk is long: that the file can't be written is said before it begins.
+// The file to which records are saved, locked; a last line that isn't whole stays one of its own. A walk is long: that the file
+// can't be written is said before it begins.
 #[tactic(auto, using(crate::proofs::Keeping::kept_then))]
 fn opened<H: Files>(files: &mut H, path: &str) -> Result<(H::Lock, H::Ledger), Ended>
     ensures { IsKeptBut (H.tells_same files.old) path.now (H.holds files.old) (H.holds files.new) }
@@ -133,16 +141,65 @@ fn opened<H: Files>(files: &mut H, path: &str) -> Result<(H::Lock, H::Ledger), E
         return Err(ended_by(&fault, Ended::Ledger));
     }
     let lock = lock_ledger(files, path)?;
+    let saved = saved_at(files, path)?;
+    if saved == Saved::Ledger {
+        files.remember(path, "it is a ledger: records are saved to another file");
+        return Err(Ended::Ledger);
+    }
     let file = LedgerFile {
         path,
         durability: Durability::System,
     };
-    let ledger = ledger_at(files, &file)?;
+    let mut ledger = ledger_at(files, &file)?;
+    if saved == Saved::Torn && append_all(&mut ledger, b"\n").is_err() {
+        return Err(Ended::Ledger);
+    }
     Ok((lock, ledger))
 }
 
+// What the file at a path has, to which records are saved.
+#[derive(Clone, Copy, Debug, PartialEq, Eq)]
+enum Saved {
+    Lines,
+    // The last line isn't whole.
+    Torn,
+    Ledger,
+}
+
+fn saved_at<H: Files>(files: &H, path: &str) -> Result<Saved, Ended> {
+    let saved = match files.open(path) {
+        Ok(mut file) => saved_in(&mut file.reader),
+        Err(fault) => Err(fault),
+    };
+    match saved {
+        Ok(saved) => Ok(saved),
+        Err(fault) => Err(ended_by(&fault, Ended::Ledger)),
+    }
+}
+
+fn saved_in<R: Read>(from: &mut R) -> io::Result<Saved> {
+    let mut buffer = [0; PIECE];
+    let mut last = b'\n';
+    for turn in 0..u64::MAX {
+        let count = from.read(&mut buffer)?;
+        let piece = &buffer[..count];
+        if turn == 0 && piece.starts_with(HEADER) {
+            return Ok(Saved::Ledger);
+        }
+        match piece.last() {
+            Some(byte) => last = *byte,
+            None => break,
+        }
+    }
+    Ok(if last == b'\n' {
+        Saved::Lines
+    } else {
+        Saved::Torn
+    })
+}
+
 // Walks by a decider. How it ended, and what is to be said then.
-fn walk_by<D: Decider, S: Disk + Clock, W: Write, E: Write>(
+fn walk_by<D: Decider, S: Disk + Clock + ProgressTold, W: Write, E: Write>(
     alloc: Global,
     walking: &Walking<'_>,
     root: Table,
@@ -158,7 +215,7 @@ fn walk_by<D: Decider, S: Disk + Clock, W: Write, E: Write>(
 {
     let telling = Telling::of(walking.progress, system.tells_terminal());
     let mut late = Late::new(alloc)?;
-    let mut progress = TimedProgress::new(alloc, telling, Work::Tree, system, faults);
+    let mut progress = TimedProgress::new(alloc, telling, Work::Walk, system);
     let outcome = cmd_walk(
         alloc,
         &LinesOrJson::of(walking.json),

@@ -68,7 +68,7 @@ fn carried<H: Files>(
     ensures { IfOk result (λ j. (begun : Option (List ℕ)) × IsBlank begun
         × CarriesInto (IsAt (H.holds host.now carrying.entry.ledger.now)) j.1 j.2 begun (H.Made.text j.0)) }
 {
-    let mut made = made_for(host, carrying.out, &[carrying.ledger])?;
+    let mut made = made_for(host, carrying.out, carrying.replace, &[carrying.ledger])?;
     let from = AtPath {
         host,
         path: carrying.ledger,

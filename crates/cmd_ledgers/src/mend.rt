@@ -46,19 +46,19 @@ pub fn cmd_mend<H: Files, W: Write, E: Write>(
 /// Mends as `cmd_mend` does, of the damaged ledger that a stream has up to its end.
 pub fn cmd_mend_stream<H: Files, R: Read, W: Write, E: Write>(
     alloc: Global,
-    out: &str,
+    mending: Mending<'_>,
     host: &mut H,
     input: &mut R,
     answers: &mut W,
     faults: &mut E,
 ) -> Outcome
-    ensures others { IsKeptBut (H.tells_same host.old) out.now (H.holds host.old) (H.holds host.new) }
+    ensures others { IsKeptBut (H.tells_same host.old) mending.entry.out.now (H.holds host.old) (H.holds host.new) }
     ensures mends { (ended : Result Outcomes Ends)
-        × MendsAt (AreFirstBytes (R.remaining input.old) (2 ^ 64 - 1)) (H.tells_same host.old) out.now
+        × MendsAt (AreFirstBytes (R.remaining input.old) (2 ^ 64 - 1)) (H.tells_same host.old) mending.entry.out.now
         (H.holds host.old) (H.holds host.new) (W.contents answers.old) (W.contents answers.new) ended
         × EndsTold ended (E.contents faults.old) (E.contents faults.new) result }
 {
-    told(mend_stream(alloc, out, host, input, answers), faults)
+    told(mend_stream(alloc, mending, host, input, answers), faults)
 }
 
 // What `cmd_mend` does, but that what ends it early isn't said.
@@ -73,7 +73,7 @@ fn mend_at<H: Files, W: Write>(
         mending.entry.out.now (H.holds host.old) (H.holds host.new) (W.contents answers.old) (W.contents answers.new)
         result }
 {
-    let mut made = made_for(host, mending.out, &[mending.ledger])?;
+    let mut made = made_for(host, mending.out, mending.replace, &[mending.ledger])?;
     let (tally, dropped) = mended_file(alloc, mending.ledger, host, &mut made)?;
     put_and_tell(alloc, host, made, mending.out, &tally, dropped, answers)
 }
@@ -81,18 +81,21 @@ fn mend_at<H: Files, W: Write>(
 // What `cmd_mend_stream` does, but that what ends it early isn't said.
 fn mend_stream<H: Files, R: Read, W: Write>(
     alloc: Global,
-    out: &str,
+    mending: Mending<'_>,
     host: &mut H,
     input: &mut R,
     answers: &mut W,
 ) -> Result<Outcome, Ended>
-    ensures others { IsKeptBut (H.tells_same host.old) out.now (H.holds host.old) (H.holds host.new) }
-    ensures mends { MendsAt (AreFirstBytes (R.remaining input.old) (2 ^ 64 - 1)) (H.tells_same host.old) out.now
-        (H.holds host.old) (H.holds host.new) (W.contents answers.old) (W.contents answers.new) result }
+    ensures others { IsKeptBut (H.tells_same host.old) mending.entry.out.now (H.holds host.old) (H.holds host.new) }
+    ensures mends { MendsAt (AreFirstBytes (R.remaining input.old) (2 ^ 64 - 1)) (H.tells_same host.old)
+        mending.entry.out.now (H.holds host.old) (H.holds host.new) (W.contents answers.old) (W.contents answers.new)
+        result }
 {
-    let mut made = made_for(host, out, &[STANDARD_INPUT])?;
+    let mut made = made_for(host, mending.out, mending.replace, &[STANDARD_INPUT])?;
     match mend_into(alloc, input, u64::MAX, &mut made) {
-        Ok((tally, dropped)) => put_and_tell(alloc, host, made, out, &tally, dropped, answers),
+        Ok((tally, dropped)) => {
+            put_and_tell(alloc, host, made, mending.out, &tally, dropped, answers)
+        }
         Err(stopped) => Err(stopped.ended(Ended::Stream)),
     }
 }

@@ -73,7 +73,12 @@ fn merged<H: Files>(
         × MergesInto (IsAt (H.holds host.now merging.entry.first.now))
         (IsAt (H.holds host.now merging.entry.second.now)) j.1 j.2 begun (H.Made.text j.0)) }
 {
-    let mut made = made_for(host, merging.out, &[merging.first, merging.second])?;
+    let mut made = made_for(
+        host,
+        merging.out,
+        merging.replace,
+        &[merging.first, merging.second],
+    )?;
     let first = AtPath {
         host,
         path: merging.first,

@@ -24,6 +24,8 @@ pub(crate) struct Answered<S> {
     // the first line, as far as it has come
     line: Vec<u8>,
     answerer: Answerer,
+    // whether a record of a holdout was sent
+    has_holdout: bool,
 }
 
 impl<S> Answered<S> {
@@ -32,11 +34,17 @@ impl<S> Answered<S> {
             stream,
             line: Vec::new(alloc),
             answerer: Answerer::Nobody,
+            has_holdout: false,
         }
     }
 
     pub fn answerer(&self) -> Answerer {
         self.answerer
+    }
+
+    // Whether a record of a holdout was sent: a coordinator that takes none lets a worker go then.
+    pub fn has_holdout(&self) -> bool {
+        self.has_holdout
     }
 
     // The first line, as far as it has come.
@@ -73,6 +81,13 @@ fn who_says(line: &[u8]) -> Answerer {
     }
 }
 
+// Whether one of the lines is a record of a holdout.
+fn has_holdout(lines: &[u8]) -> bool {
+    lines
+        .split(|byte| *byte == b'\n')
+        .any(|line| line.ends_with(b" U"))
+}
+
 impl<S: Read> Read for Answered<S> {
     fn read(&mut self, buf: &mut [u8]) -> io::Result<usize> {
         let count = self.stream.read(buf)?;
@@ -86,7 +101,11 @@ impl<S: Read> Read for Answered<S> {
 
 impl<S: Write> Write for Answered<S> {
     fn write(&mut self, buf: &[u8]) -> io::Result<usize> {
-        self.stream.write(buf)
+        let count = self.stream.write(buf)?;
+        if let Some(sent) = buf.get(..count) {
+            self.has_holdout |= has_holdout(sent);
+        }
+        Ok(count)
     }
 
     fn flush(&mut self) -> io::Result<()> {

@@ -126,11 +126,14 @@ fn lost<H: Network, S>(
 {
     match answered.answerer() {
         Answerer::Coordinator => {
-            host.remember_loss(address, "the connection was lost");
+            host.remember_loss(address, loss_of(answered, "the connection was lost"));
             Ok(Called::Lost)
         }
         Answerer::Nobody => {
-            host.remember_loss(address, "the connection was lost before anything came");
+            host.remember_loss(
+                address,
+                loss_of(answered, "the connection was lost before anything came"),
+            );
             Ok(Called::Unanswered)
         }
         Answerer::Stranger if answered.line().starts_with(b"bb ") => {
@@ -143,6 +146,16 @@ fn lost<H: Network, S>(
             host.remember_loss(address, &told);
             Ok(Called::Unanswered)
         }
+    }
+}
+
+// What is said of a lost connection: behind a holdout what a user can do.
+fn loss_of<S>(answered: &Answered<S>, otherwise: &'static str) -> &'static str {
+    if answered.has_holdout() {
+        "the connection was lost behind a record of a holdout, which the coordinator may not take: a token, \
+--accept-holdouts there, or a longer search here (--hard) helps"
+    } else {
+        otherwise
     }
 }
 

@@ -21,6 +21,8 @@ pub record IsWithinRange (s : Search) : Type 0 where
   pub words : s.words ≤ 11
   pub count : s.count ≤ 12
   pub rules : s.rules ≤ 7
+  pub a_long_run : 1 ≤ s.long_run
+  pub long_run : s.long_run ≤ 100000000
 
 pub record IsBeginning (b : Beginning) : Type 0 where
   pub some_states : 1 ≤ b.states
@@ -73,14 +75,14 @@ pub record IsDrawing (d : Drawing) : Type 0 where
   pub pixels : d.square ≤ 1000
   pub some_height : IfSome d.height (λ pixels. 1 ≤ pixels)
 
--- of the steps of a run alone, where there is one
-abbrev pub IsRunIf : Option ℕ → Type 0
-IsRunIf run = IfSome run (λ steps. (1 ≤ steps) × (steps ≤ 10000000000))
+-- of the steps of a run alone, where there is one: at least one, and so many at most
+abbrev pub IsRunIf : Option ℕ → ℕ → Type 0
+IsRunIf run most = IfSome run (λ steps. (1 ≤ steps) × (steps ≤ most))
 
 abbrev pub AreWithinRanges : Options → Type 0
 AreWithinRanges (Check checking) = Unit {0}
-AreWithinRanges (Decide deciding) = IsWithinRange deciding.search × IsRunIf deciding.run
-AreWithinRanges (Explain explaining) = IsRunIf explaining.run
+AreWithinRanges (Decide deciding) = IsWithinRange deciding.search × IsRunIf deciding.run 100000000
+AreWithinRanges (Explain explaining) = IsRunIf explaining.run 10000000000
 AreWithinRanges (Show showing) = 1 ≤ showing.every
 AreWithinRanges (Tables listing) = listing.steps ≤ 100000000
 AreWithinRanges (Coord beginning ledger listening) = IsBeginning beginning × IfSome listening IsListening

@@ -21,4 +21,6 @@ pub struct Drawing<'a> {
     pub png: bool,
     /// The folder in which the pictures are files; none where one picture is drawn, to standard output.
     pub out: Option<&'a str>,
+    /// Whether a picture that is there already is replaced; else a file is only made where none is.
+    pub replace: bool,
 }

@@ -46,27 +46,28 @@ pub enum Options<'a> {
         /// The coordinator's ledger; none where it is kept in memory.
         ledger: Option<LedgerFile<'a>>,
     },
-    /// `bb walk N [--root TABLE] [--save FILE [--dear K]] [--json] [--progress]` and the options of a search of `decide`
+    /// `bb walk N [--root TABLE] [--save FILE [--dear K]] [--long-run K] [--json] [--progress]` and the options of a search of `decide`
     Walk(Walking<'a>),
     /// `bb retry FILE [--sync] [--progress]` and the options of a search of `decide`
     Retry(Retrying<'a>),
-    /// `bb merge A B OUT`
+    /// `bb merge A B OUT [--replace] [--progress]`
     Merge(Merging<'a>),
-    /// `bb carry IN OUT`
+    /// `bb carry IN OUT [--replace] [--progress]`
     Carry(Carrying<'a>),
-    /// `bb mend IN OUT`
+    /// `bb mend IN OUT [--replace] [--progress]`
     Mend(Mending<'a>),
     /// `bb split N DIR [--filled D] [--progress]` and the options of a search of `decide`
     Split(Splitting<'a>),
     /// `bb settle FILE [--sync] [--progress]` and the options of a search of `decide`
     Settle(LedgerSettling<'a>),
-    /// `bb join DIR [--json] [--ledger OUT] [--progress]`
+    /// `bb join DIR [--json] [--ledger OUT [--replace]] [--progress]`
     Join(Joining<'a>),
-    /// `bb look PATH [--holdouts]`
+    /// `bb look PATH [--holdouts] [--progress]`
     Look(Looking<'a>),
-    /// `bb draw [--from T] [--steps K] [--rows R] [--width W] [--columns C] [--square P] [--height H] [--png] [--out DIR]`
+    /// `bb draw [--from T] [--steps K] [--rows R] [--width W] [--columns C] [--square P] [--height H] [--png]
+    /// [--out DIR [--replace]]`
     Draw(Drawing<'a>),
-    /// `bb page FILE [--title TITLE]` or `bb page --table [--title TITLE]`
+    /// `bb page FILE [--title TITLE] [--progress]` or `bb page --table [--title TITLE]`
     Page(Paging<'a>),
     /// `bb report FILE [--json] [--why] [--progress]`
     Report(Reporting<'a>),
@@ -90,7 +91,7 @@ pub struct Deciding<'a> {
     pub json: bool,
     /// Whether the table of an answer is printed as it came.
     pub keep: bool,
-    /// The most steps of its run, where a table is run alone: 1 to 10,000,000,000. None where all that `search` asks for is
+    /// The most steps of its run, where a table is run alone: 1 to 100,000,000. None where all that `search` asks for is
     /// done.
     pub run: Option<u64>,
     /// Whether to tell on standard error, while it goes on, how far it is.
@@ -141,6 +142,8 @@ pub struct Paging<'a> {
     pub ledger: Option<&'a str>,
     /// What the page is called; none where it is called by what it is of.
     pub title: Option<&'a str>,
+    /// Whether to tell on standard error, while it goes on, how far it is.
+    pub progress: bool,
 }
 
 /// Which configurations of a table's run are shown, and how.
@@ -178,6 +181,10 @@ pub struct Merging<'a> {
     pub second: &'a str,
     /// The ledger that is written; it may be one of the two.
     pub out: &'a str,
+    /// Whether what is at the path of the ledger that is written is replaced; else a ledger is only written where none is.
+    pub replace: bool,
+    /// Whether to tell on standard error, while it goes on, how far it is.
+    pub progress: bool,
 }
 
 /// The paths of a ledger of either version and of the one that is written, of version 2.
@@ -187,6 +194,10 @@ pub struct Carrying<'a> {
     pub ledger: &'a str,
     /// The ledger that is written; it may be the same.
     pub out: &'a str,
+    /// Whether what is at the path of the ledger that is written is replaced; else a ledger is only written where none is.
+    pub replace: bool,
+    /// Whether to tell on standard error, while it goes on, how far it is.
+    pub progress: bool,
 }
 
 /// The paths of a damaged ledger and of the one that is written, of version 2.
@@ -196,6 +207,10 @@ pub struct Mending<'a> {
     pub ledger: &'a str,
     /// The ledger that is written; it may be the same.
     pub out: &'a str,
+    /// Whether what is at the path of the ledger that is written is replaced; else a ledger is only written where none is.
+    pub replace: bool,
+    /// Whether to tell on standard error, while it goes on, how far it is.
+    pub progress: bool,
 }
 
 /// How a ledger is settled.
@@ -257,6 +272,8 @@ pub struct Joining<'a> {
     pub folder: &'a str,
     /// The path of the one ledger that is written of all; none where none is.
     pub out: Option<&'a str>,
+    /// Whether what is at the path of the ledger that is written is replaced; else a ledger is only written where none is.
+    pub replace: bool,
     /// Whether to print the report as JSON.
     pub json: bool,
     /// Whether to tell on standard error, while it goes on, how far it is.
@@ -270,6 +287,8 @@ pub struct Looking<'a> {
     pub path: &'a str,
     /// Whether the holdouts are printed, in place of what is recorded of given tables.
     pub holdouts: bool,
+    /// Whether to tell on standard error, while it goes on, how far it is.
+    pub progress: bool,
 }
 
 /// What is known before certificates are searched for, and how far they are.
@@ -291,9 +310,11 @@ pub struct Search<'a> {
     pub count: u64,
     /// How often a run is looked at for rules with induction: 0 to 7, where 0 asks for none.
     pub rules: u64,
-    /// Whether it goes by stages of its own, from cheap searches to dear ones, which `steps` scales; the other numbers
-    /// aren't used then.
+    /// Whether it goes by stages of its own, from cheap searches to dear ones, which `steps` scales; of the other numbers
+    /// `long_run` alone is used then.
     pub hard: bool,
+    /// The most steps of the stage of `hard` that looks for halting alone: 1 to 100,000,000.
+    pub long_run: u64,
 }
 
 /// How a coordinator is begun.

@@ -78,7 +78,16 @@ fn join_at<H: Files, P: ReportForm, W: Write, E: Write>(
         (E.contents faults.old) (E.contents faults.new) result) }
 {
     match joining.out {
-        Some(out) => join_into(alloc, form, joining.folder, out, host, answers, faults),
+        Some(out) => join_into(
+            alloc,
+            form,
+            joining.folder,
+            out,
+            joining.replace,
+            host,
+            answers,
+            faults,
+        ),
         None => join_alone(alloc, form, joining.folder, host, answers, faults),
     }
 }
@@ -103,12 +112,14 @@ fn join_alone<H: Files, P: ReportForm, W: Write, E: Write>(
 }
 
 /// Prints the report of the trunk in a folder and of the parts beside it, in a form, and puts the one ledger of all at a
-/// path, locked, once all were read. Where that ends early nothing has changed at any path.
+/// path, locked, once all were read; in place of what is there, if that is to be replaced. Where that ends early nothing has
+/// changed at any path.
 pub fn join_into<H: Files, P: ReportForm, W: Write, E: Write>(
     alloc: Global,
     form: &P,
     folder: &str,
     out: &str,
+    replace: bool,
     host: &mut H,
     answers: &mut W,
     faults: &mut E,
@@ -119,7 +130,7 @@ pub fn join_into<H: Files, P: ReportForm, W: Write, E: Write>(
         (W.contents answers.old) (W.contents answers.new) (E.contents faults.old) (E.contents faults.new) result }
 {
     let _lock = lock_ledger(host, out)?;
-    let (made, outcome) = joined(alloc, form, folder, out, host, answers, faults)?;
+    let (made, outcome) = joined(alloc, form, folder, out, replace, host, answers, faults)?;
     put_at(host, made, out)?;
     Ok(outcome)
 }
@@ -130,6 +141,7 @@ fn joined<H: Files, P: ReportForm, W: Write, E: Write>(
     form: &P,
     folder: &str,
     out: &str,
+    replace: bool,
     host: &H,
     answers: &mut W,
     faults: &mut E,
@@ -143,7 +155,7 @@ fn joined<H: Files, P: ReportForm, W: Write, E: Write>(
         (E.contents faults.new)) }
 {
     let mut one = OneLedger {
-        ledger: made_for(host, out, &[])?,
+        ledger: made_for(host, out, replace, &[])?,
     };
     let removed = host.removed_by(&one.ledger)?;
     let name = removed.as_deref();

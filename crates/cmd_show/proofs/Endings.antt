@@ -1,5 +1,5 @@
 -- What is known of a drawing once what ended its command early is said.
-use Rattle.std.proofs.Common.{◌≡◌, ◌⊎◌, ◌∙◌, ◌++◌, ℕ, List, Option, Some, None, Result, Ok, Err, IfOk, IfErr, IfNone, IfSome, inl, inr, ap, subst, sym}
+use Rattle.std.proofs.Common.{◌≡◌, ◌⊎◌, ◌∙◌, ℕ, List, Option, Some, None, Result, Ok, Err, IfOk, IfErr, IfNone, IfSome, inl, inr, ap, subst, sym}
 use Rattle.std.proofs.KnownBytes.{Appends-trans}
 use Rattle.std.specs.Io.KnownBytes.{Appends}
 use Rattle.cmd_options.specs.Ends.{EndsTold, PrintsNothing}

@@ -9,9 +9,9 @@ pub mod Folding
 pub mod Painting
 pub mod LineLaws
 pub mod Framing
-pub mod Keeping
 mod Endings
 mod Paths
 mod Turns
 pub mod SumLaws
 pub mod BlockLaws
+pub mod WholeLines

@@ -17,6 +17,7 @@ pub mod Tape
 pub mod Layout
 pub mod Moments
 pub mod Shown
+pub mod WholeLines
 pub mod Picture
 pub mod Files
 pub mod Placing

@@ -3,3 +3,4 @@ pub mod Rows
 pub mod Drawn
 pub mod Lines
 pub mod Places
+pub mod Printing

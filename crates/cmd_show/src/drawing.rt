@@ -134,8 +134,14 @@ impl<H: Files> Pictures<'_, H> {
         ensures err { IfErr result EndsDrawing }
     {
         let picture = picture_of(self.alloc, t, self.drawing)?;
-        let png = self.drawing.png;
-        put_picture(self.alloc, self.host, self.folder, t, png, &picture)
+        put_picture(
+            self.alloc,
+            self.host,
+            self.folder,
+            t,
+            self.drawing,
+            &picture,
+        )
     }
 }
 
@@ -153,16 +159,16 @@ pub fn put_picture<H: Files>(
     host: &mut H,
     folder: &str,
     t: &Table,
-    png: bool,
+    drawing: &Drawing<'_>,
     picture: &[u8],
 ) -> Result<(), Ended>
-    ensures ok { OnOk result (PutsFile (H.tells_same host.old) (picture_path png folder.now t.now) picture.now
-        (H.holds host.old) (H.holds host.new)) }
+    ensures ok { OnOk result (PutsFile (H.tells_same host.old) (picture_path drawing.now.png folder.now t.now)
+        picture.now (H.holds host.old) (H.holds host.new)) }
     ensures still { IsToldStill (H.tells_same host.old) (H.tells_same host.new) }
     ensures err { IfErr result (λ e. EndsDrawing e × IsKept (H.holds host.old) (H.holds host.new)) }
 {
-    let path = picture_path(alloc, folder, t, png)?;
-    put_file(host, &path, picture)
+    let path = picture_path(alloc, folder, t, drawing.png)?;
+    put_file(host, &path, drawing.replace, picture)
 }
 
 /// The path of the picture of a table in a folder, a PNG or an SVG.

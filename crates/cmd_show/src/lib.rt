@@ -20,6 +20,7 @@
 #![tactic(auto)]
 
 mod asked;
+mod asking;
 mod bitmap;
 mod cells;
 mod checks;
@@ -42,6 +43,7 @@ mod pixels;
 mod places;
 mod placing;
 mod png;
+mod printer;
 mod remainder;
 mod row;
 mod rows;

@@ -38,7 +38,7 @@ pub fn append_shown(
 }
 
 // The times that are shown.
-fn shown_times(showing: &Showing) -> Times
+pub(crate) fn shown_times(showing: &Showing) -> Times
     ensures is { result ≡ shown_times showing.now }
     ensures within { AreWithinRuns result }
 {

@@ -13,7 +13,7 @@ use Rattle.cmd_options.specs.declared.options.Search.{Search}
 use Rattle.cmd_options.specs.declared.options.Settling.{Settling}
 use Rattle.cmd_options.specs.declared.options.Walking.{Walking}
 use Rattle.cmd_options.specs.declared.options.Working.{Working}
-use Rattle.cmd_words.specs.Given.{IsArgument, IsFlag, IsLedger, IsNumber, IsNumberIf, IsStates, IsTextIf, IsWrittenAt}
+use Rattle.cmd_words.specs.Given.{IsArgument, IsFlag, IsLedger, IsNumber, IsNumberIf, IsNumberOr, IsStates, IsTextIf, IsWrittenAt}
 use Rattle.cmd_words.specs.Grammar.{grammar}
 use Rattle.cmd_words.specs.declared.sourcing.Source.{Source}
 use Rattle.cmd_words.specs.declared.sourcing.Source.TheVariants.{Standard, File, Lines}
@@ -28,6 +28,7 @@ pub record AsksSearch (rows : List Row) (s : Search) : Type 0 where
   pub count : IsNumber rows (codes "count") s.count
   pub rules : IsNumber rows (codes "rules") s.rules
   pub hard : IsFlag rows (codes "hard") s.hard
+  pub long_run : IsNumberOr rows (codes "long-run") 100000000 s.long_run
 
 -- except for the frames that are lost
 pub record AsksSettling (rows : List Row) (s : Settling) : Type 0 where
@@ -97,10 +98,15 @@ pub record AsksDraw (given : List Row) (d : Drawing) : Type 0 where
   pub height : IsNumberIf given (codes "height") d.height
   pub png : IsFlag given (codes "png") d.png
   pub out : IsTextIf given (codes "out") d.out
+  pub replace : IsFlag given (codes "replace") d.replace
 
 -- the ledger that has to be named
 abbrev pub AsksFile : List Row → LedgerFile → Type 0
 AsksFile rows file = IsWrittenAt rows (Some (unwrap_or (first_of (codes "FILE") rows) [])) file
+
+-- how a ledger is made of others
+abbrev pub AsksMaking : List Row → Bool → Bool → Type 0
+AsksMaking rows replace progress = IsFlag rows (codes "replace") replace × IsFlag rows (codes "progress") progress
 
 -- the command of this name, with these matches, asks for that
 abbrev pub AsksFor : List ℕ → List Row → Options → Type 0
@@ -137,23 +143,27 @@ AsksFor name rows (Settle s) =
     × IsFlag rows (codes "progress") s.progress
 AsksFor name rows (Merge m) =
     (name ≡ codes "merge") × IsArgument rows (codes "A") m.first × IsArgument rows (codes "B") m.second
-    × IsArgument rows (codes "OUT") m.out
+    × IsArgument rows (codes "OUT") m.out × AsksMaking rows m.replace m.progress
 AsksFor name rows (Carry c) =
     (name ≡ codes "carry") × IsArgument rows (codes "IN") c.ledger × IsArgument rows (codes "OUT") c.out
+    × AsksMaking rows c.replace c.progress
 AsksFor name rows (Mend m) =
     (name ≡ codes "mend") × IsArgument rows (codes "IN") m.ledger × IsArgument rows (codes "OUT") m.out
+    × AsksMaking rows m.replace m.progress
 AsksFor name rows (Split s) =
     (name ≡ codes "split") × IsNumber rows (codes "N") s.states × IsArgument rows (codes "DIR") s.folder
     × IsNumber rows (codes "filled") s.filled × AsksSearch rows s.search
     × IsFlag rows (codes "progress") s.progress
 AsksFor name rows (Join j) =
     (name ≡ codes "join") × IsArgument rows (codes "DIR") j.folder × IsTextIf rows (codes "ledger") j.out
-    × IsFlag rows (codes "json") j.json × IsFlag rows (codes "progress") j.progress
+    × IsFlag rows (codes "replace") j.replace × IsFlag rows (codes "json") j.json × IsFlag rows (codes "progress") j.progress
 AsksFor name rows (Look l) =
     (name ≡ codes "look") × IsArgument rows (codes "PATH") l.path × IsFlag rows (codes "holdouts") l.holdouts
+    × IsFlag rows (codes "progress") l.progress
 AsksFor name rows (Draw drawing) = (name ≡ codes "draw") × AsksDraw rows drawing
 AsksFor name rows (Page p) =
     (name ≡ codes "page") × IsTextIf rows (codes "FILE") p.ledger × IsTextIf rows (codes "title") p.title
+    × IsFlag rows (codes "progress") p.progress
 AsksFor name rows (Report r) =
     (name ≡ codes "report") × IsArgument rows (codes "FILE") r.file × IsFlag rows (codes "json") r.json
     × IsFlag rows (codes "why") r.why × IsFlag rows (codes "progress") r.progress

@@ -23,6 +23,10 @@ abbrev pub IsNumberIf : List Row → List ℕ → Option ℕ → Type 0
 IsNumberIf rows name None = first_of name rows ≡ None
 IsNumberIf rows name (Some n) = IsNumber rows name n
 
+-- and of one that is this where it is left out
+abbrev pub IsNumberOr : List Row → List ℕ → ℕ → ℕ → Type 0
+IsNumberOr rows name other n = (given : Option ℕ) × IsNumberIf rows name given × (n ≡ unwrap_or given other)
+
 abbrev pub IsTextIf : List Row → List ℕ → Option (Bor (List ℕ)) → Type 0
 IsTextIf rows name given = option_map (λ text. text.now) given ≡ first_of name rows
 

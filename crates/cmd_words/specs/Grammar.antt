@@ -75,6 +75,7 @@ walk_rules =
     ∷ text_option (codes "root")
     ∷ text_option (codes "save")
     ∷ text_option_or (codes "dear") (codes "1000")
+    ∷ text_option (codes "long-run")
     ∷ flag_option (codes "json")
     ∷ flag_option (codes "progress")
     ∷ why_rule
@@ -113,9 +114,10 @@ abbrev pub written_rules : List Rule
 written_rules =
     argument (codes "FILE") ∷ flag_option (codes "sync") ∷ flag_option (codes "progress") ∷ why_rule ∷ []
 
--- of a ledger that is made of another
-abbrev pub rewritten_rules : List Rule
-rewritten_rules = argument (codes "IN") ∷ argument (codes "OUT") ∷ why_rule ∷ []
+-- of a ledger that is made of others
+abbrev pub made_rules : List Rule
+made_rules =
+    argument (codes "OUT") ∷ flag_option (codes "replace") ∷ flag_option (codes "progress") ∷ why_rule ∷ []
 
 abbrev pub draw_rules : List Rule
 draw_rules =
@@ -129,6 +131,7 @@ draw_rules =
     ∷ text_option (codes "height")
     ∷ tied (flag_option (codes "png"))
     ∷ text_option (codes "out")
+    ∷ tied (flag_option (codes "replace"))
     ∷ why_rule
     ∷ []
 
@@ -184,13 +187,23 @@ join_rules =
     argument (codes "DIR")
     ∷ flag_option (codes "json")
     ∷ text_option (codes "ledger")
+    ∷ tied (flag_option (codes "replace"))
     ∷ flag_option (codes "progress")
     ∷ why_rule
     ∷ []
 
 abbrev pub page_rules : List Rule
 page_rules =
-    tied (new_rule (codes "FILE")) ∷ flag_option (codes "table") ∷ text_option (codes "title") ∷ why_rule ∷ []
+    tied (new_rule (codes "FILE"))
+    ∷ flag_option (codes "table")
+    ∷ text_option (codes "title")
+    ∷ flag_option (codes "progress")
+    ∷ why_rule
+    ∷ []
+
+abbrev pub look_rules : List Rule
+look_rules =
+    argument (codes "PATH") ∷ flag_option (codes "holdouts") ∷ flag_option (codes "progress") ∷ why_rule ∷ []
 
 abbrev pub report_rules : List Rule
 report_rules =
@@ -218,16 +231,16 @@ commands =
     ∷ command (codes "loop") (workers_rules ++ rounds_rules ++ search_rules)
     ∷ command (codes "report") report_rules
     ∷ command (codes "page") page_rules
-    ∷ command (codes "look") (argument (codes "PATH") ∷ flag_option (codes "holdouts") ∷ why_rule ∷ [])
+    ∷ command (codes "look") look_rules
     ∷ command (codes "retry") (written_rules ++ search_rules)
     ∷ command (codes "split") (split_rules ++ search_rules)
     ∷ command (codes "settle") (written_rules ++ search_rules)
     ∷ command (codes "join") join_rules
     ∷ command (codes "coord") coord_rules
     ∷ command (codes "work") (work_rules ++ search_rules)
-    ∷ command (codes "merge") (argument (codes "A") ∷ argument (codes "B") ∷ argument (codes "OUT") ∷ why_rule ∷ [])
-    ∷ command (codes "carry") rewritten_rules
-    ∷ command (codes "mend") rewritten_rules
+    ∷ command (codes "merge") (argument (codes "A") ∷ argument (codes "B") ∷ made_rules)
+    ∷ command (codes "carry") (argument (codes "IN") ∷ made_rules)
+    ∷ command (codes "mend") (argument (codes "IN") ∷ made_rules)
     ∷ []
 
 -- the program, which wants a command

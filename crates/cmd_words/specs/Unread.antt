@@ -6,7 +6,7 @@ use Rattle.clap.specs.declared.error.kind.ErrorKind.TheVariants.{DisplayHelp, Di
 use Rattle.cmd_options.specs.declared.outcome.Outcome.{Outcome}
 use Rattle.cmd_options.specs.declared.outcome.Outcome.TheVariants.{Accepted, BadLine, NoMemory, Failed}
 use Rattle.cmd_words.specs.declared.line_fault.LineFault.{LineFault}
-use Rattle.cmd_words.specs.declared.line_fault.LineFault.TheVariants.{Refused, PathForNumber, NoNumber, FileForInput, FileForLine, TwoSources, LedgerOfStream, OpenToAll, NoTree, SyncOfNothing, NotText, NoSuchCommand, OutOfRange, KnownFromInput, NoMemory as WantsMemory}
+use Rattle.cmd_words.specs.declared.line_fault.LineFault.TheVariants.{Refused, PathForNumber, NoNumber, FileForInput, FileForLine, Unquoted, TwoSources, LedgerOfStream, OpenToAll, NoTree, SyncOfNothing, NotText, NoSuchCommand, OutOfRange, KnownFromInput, OutputToDash, NoMemory as WantsMemory}
 
 -- memory was refused, or a stream failed when the fault was to be said
 abbrev pub EndsGravely : Outcome → Type 0
@@ -24,6 +24,7 @@ EndsUnread (PathForNumber text) o = (o ≡ BadLine) ⊎ EndsGravely o
 EndsUnread (NoNumber text) o = (o ≡ BadLine) ⊎ EndsGravely o
 EndsUnread (FileForInput told) o = (o ≡ BadLine) ⊎ EndsGravely o
 EndsUnread FileForLine o = (o ≡ BadLine) ⊎ EndsGravely o
+EndsUnread Unquoted o = (o ≡ BadLine) ⊎ EndsGravely o
 EndsUnread TwoSources o = (o ≡ BadLine) ⊎ EndsGravely o
 EndsUnread LedgerOfStream o = (o ≡ BadLine) ⊎ EndsGravely o
 EndsUnread OpenToAll o = (o ≡ BadLine) ⊎ EndsGravely o
@@ -33,4 +34,5 @@ EndsUnread NotText o = (o ≡ BadLine) ⊎ EndsGravely o
 EndsUnread NoSuchCommand o = (o ≡ BadLine) ⊎ EndsGravely o
 EndsUnread (OutOfRange number) o = (o ≡ BadLine) ⊎ EndsGravely o
 EndsUnread KnownFromInput o = (o ≡ BadLine) ⊎ EndsGravely o
+EndsUnread OutputToDash o = (o ≡ BadLine) ⊎ EndsGravely o
 EndsUnread WantsMemory o = EndsGravely o

@@ -32,6 +32,8 @@ mod rows {
         default: Some("1000"), help: "With --save, append each record of more than K steps too" };
     pub(crate) const STEPS: Number = ranged! { name: "steps", value: Some("K"), least: 1, most: 100_000_000,
         default: Some("1000"), help: "The most steps of a search's run; scales the stages of --hard" };
+    pub(crate) const LONG_RUN: Number = ranged! { name: "long-run", value: Some("K"), least: 1, most: 100_000_000,
+        default: None, help: "With --hard, look for a late halt in K steps at most (default 100000000)" };
     pub(crate) const FROM: Number = ranged! { name: "from", value: Some("T"), least: 0, most: 100_000_000,
         default: Some("0"), help: "Begin at this time" };
     pub(crate) const DRAWN: Number = ranged! { name: "steps", value: Some("K"), least: 0, most: 100_000_000,
@@ -50,11 +52,11 @@ mod rows {
         default: Some("100"), help: "Show so many steps from there on" };
     pub(crate) const EVERY: Number = ranged! { name: "every", value: Some("E"), least: 1, most: 100_000_000,
         default: Some("1"), help: "Show every E-th configuration" };
-    // One number for the two commands that run a table alone.
-    pub(crate) const RUN_ALONE: Number = ranged! { name: "run", value: Some("K"), least: 1, most: 10_000_000_000,
+    // As far as a record of a halt may say.
+    pub(crate) const RUN_ALONE: Number = ranged! { name: "run", value: Some("K"), least: 1, most: 100_000_000,
         default: None, help: "Look for halting and for loops alone, in K steps at most" };
-    pub(crate) const SEEN: Number = Number {
-        help: "Of a table without a certificate, say what is seen in K steps [1 to 10000000000]", ..RUN_ALONE };
+    pub(crate) const SEEN: Number = ranged! { name: "run", value: Some("K"), least: 1, most: 10_000_000_000,
+        default: None, help: "Of a table without a certificate, say what is seen in K steps" };
     pub(crate) const RUN_STEPS: Number = ranged! { name: "steps", value: Some("K"), least: 0, most: 100_000_000,
         default: Some("1000000"), help: "With --normal, run a table for so many steps at most" };
 
@@ -80,14 +82,14 @@ mod rows {
     pub(crate) const FIRST: Text = Text { name: "A", value: None, help: "The ledger whose records come first" };
     pub(crate) const SECOND: Text = Text { name: "B", value: None, help: "The other ledger" };
     pub(crate) const MERGED: Text = Text { name: "OUT", value: None,
-        help: "The ledger file that is written; it may be one of the two" };
+        help: "The ledger file that is written" };
     pub(crate) const OLD: Text = Text { name: "IN", value: None, help: "The ledger file, of either version" };
     pub(crate) const CARRIED: Text = Text { name: "OUT", value: None,
-        help: "The ledger file that is written; it may be the same" };
+        help: "The ledger file that is written" };
     pub(crate) const DAMAGED: Text = Text { name: "IN", value: None,
         help: "The ledger file, of either version, or `-` for standard input" };
     pub(crate) const MENDED: Text = Text { name: "OUT", value: None,
-        help: "The ledger file that is written; it may be the same" };
+        help: "The ledger file that is written" };
     pub(crate) const LEDGER: Text = Text { name: "ledger", value: Some("FILE"),
         help: "The ledger file, which is created where it isn't there; without it none is kept" };
     pub(crate) const ROOT: Text = Text { name: "root", value: Some("TABLE"),
@@ -128,7 +130,7 @@ mod rows {
     pub(crate) const LINE_JSON: Flag = Flag { name: "json", needs: &[], excludes: &[],
         help: "Print an object of JSON for each line" };
     pub(crate) const WHY: Flag = Flag { name: "why", needs: &[], excludes: &[],
-        help: "Say on standard error, in words, what was refused or cut off, also where that isn't a terminal" };
+        help: "Say on standard error, in words, all that is said at a terminal, also where it isn't one" };
     pub(crate) const RECORD_WHY: Flag = Flag { help: "Say on standard error, in words, what is wrong with a record", ..WHY };
     pub(crate) const LINE_WHY: Flag = Flag { help: "Say on standard error, in words, why a line is refused", ..WHY };
     pub(crate) const LEDGER_WHY: Flag = Flag {
@@ -159,5 +161,10 @@ mod rows {
         help: "Print the tables that are recorded without a verdict, and read no lines" };
     pub(crate) const PROGRESS: Flag = Flag { name: "progress", needs: &[], excludes: &[],
         help: "Show the progress on standard error, a line a second, also where that isn't a terminal" };
+    pub(crate) const REPLACE: Flag = Flag { name: "replace", needs: &[], excludes: &[],
+        help: "Replace the file that OUT is already" };
+    // Where the ledger is an option, or the folder of pictures.
+    pub(crate) const JOINED_REPLACE: Flag = Flag { needs: &["ledger"], ..REPLACE };
+    pub(crate) const DRAWN_REPLACE: Flag = Flag { needs: &["out"], help: "Replace pictures that are in DIR already", ..REPLACE };
     pub(crate) const SERVED_PROGRESS: Flag = Flag { needs: &["listen"], ..PROGRESS };
 }

@@ -10,6 +10,7 @@ use crate::line_fault::LineFault;
 use crate::numbers::no_number;
 use crate::reading::{asked, flag_of};
 use crate::sourcing::{Source, source_of};
+use crate::writing::written_by;
 use clap::error::ErrorKind;
 use clap::{ArgMatches, Error};
 use cmd_options::{NoMemory, Options};
@@ -91,6 +92,7 @@ fn options_of<'a>(
             let word = command.get_str(number.name).unwrap_or_default();
             Err(no_number(alloc, word, number))
         }
+        Ok(asked) if written_by(&asked) == Some("-") => Err(LineFault::OutputToDash),
         asked => asked,
     }
 }

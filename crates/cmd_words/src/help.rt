@@ -10,7 +10,7 @@ pub(crate) const PROGRAM: &str = "The commands are for
 
 A number can be written as 1000000, 1_000_000 or 1e6.
 Exit status: 0 all accepted; 1 something was refused; 2 a wrong command line; 3 out of memory; 4 a stream or a file
-failed, which standard error names. With --why it says also why a ledger was refused, and what was cut off one.";
+failed, which standard error names. It says too why a ledger was refused, and what was cut off one.";
 
 /// What the short help of each command says last.
 pub(crate) const BRIEF: &str = "bb COMMAND --help says more.";
@@ -79,8 +79,8 @@ error says which port it is. A socket file at which nobody listens is replaced; 
 (`refused 603`). The coordinator disconnects a worker that sends what no worker sends: a line that is no message, a
 record that is refused, or a holdout (TABLE U) without --token or --accept-holdouts. It also disconnects a worker whose
 first line doesn't come within 10 seconds, and one that sends nothing for an hour. Where 1,000 are connected, the one
-that was silent longest, for a minute at least, makes room for another. At a terminal standard error says who connects,
-and why a worker is gone.
+that was silent longest, for a minute at least, makes room for another. Standard error says who is turned away and
+why; at a terminal, or with --why, also who connects, and why a worker is gone.
 
 The token is what FILE holds, without a newline at its end. Once no table is open the coordinator goes on until all
 workers are gone, or for 5 seconds. SIGINT and SIGTERM end it at once; what was acknowledged is in the ledger.
@@ -116,8 +116,7 @@ pub(crate) const RUN: &str =
     "A coordinator grants tables to workers; each looks for certificates as `bb decide` does, and the coordinator
 judges what they send. At the end comes the report, as by `bb report`. It is the same however many workers
 there are and whatever frames are lost. With --ledger a run that was stopped goes on where it was.
-Standard error shows the progress: at a terminal on one line that is written over, elsewhere with --progress, a line a
-second.
+Standard error shows the progress, as of `bb report`.
 
 All workers run in this process, on one processor. To use all processors, cut the tree into parts by `bb split`, and
 settle them by `contrib/parallel.sh DIR`; or let `contrib/tree.sh N DIR` split, settle and join.
@@ -141,9 +140,13 @@ large the tree is: 16 bytes for each holdout, and what the searches take. A walk
 With --root TABLE, a table of N states, only the tree below that table is walked. The report says `root TABLE`; its
 best is S(N) where TABLE has no entries.
 
+With --long-run K and --hard a halt that no other stage finds is looked for in K steps at most, in place of 100,000,000: so
+a walk takes less time, and may leave tables that halt late.
+
 With --save FILE the records that took long to find are appended to FILE, each as soon as it is found: those that other
 searches than runs and backward reasoning found, with --hard those of later stages than the eighth, and those of more
-than --dear steps. What was looked up isn't appended. The next walk gets FILE by --known.
+than --dear steps. What was looked up isn't appended. A last line of FILE that has no newline gets one first. A ledger is refused. The next walk
+gets FILE by --known.
 
 All is done in this process, on one processor; `contrib/walk.sh N` uses all. Standard error shows the progress: at a
 terminal on one line that is written over, elsewhere with --progress, a line a second.
@@ -163,10 +166,9 @@ Exit status: as of `bb run`; 4 also where a socket failed (`refused 603`). The l
 pub(crate) const RETRY: &str =
     "Holdouts are tables that are recorded without a verdict. Each is looked at again, as by `bb decide`, and a
 record with a verdict is appended to FILE. What follows the last line that can be kept is cut off first; it is kept in
-FILE.cut, except for a torn last line, as --why says, and `bb mend` reads it.
+FILE.cut, except for a torn last line, as standard error says, and `bb mend` reads it.
 What becomes open below a settled table stays open: `bb run --ledger FILE` goes on with it.
-Standard error shows the progress: at a terminal on one line that is written over, elsewhere with --progress, a line a
-second.
+Standard error shows the progress, as of `bb report`.
 
 Holdouts are looked at in the order of their texts as they stood at the start. FILE has to be there.
 
@@ -181,10 +183,11 @@ and then those of B for tables that A has no record of. Each record is judged ag
 `merged R open O holdouts H`: how many records, open tables and holdouts there are; and `left LINE`, as by
 `bb report`, of the first of the two of which not all could be kept.
 
-A is read and judged before B is opened, and both before OUT is touched. Where OUT leads to a plain file or to nothing,
-the ledger is written to a new file beside it, OUT.new, which takes its place once it is on the disk; links stay; after
-a failure the new file is left. A file OUT.new that is there already is removed first; where it leads to A or B, the
-new file is OUT.new.new. A device is written over.
+A is read and judged before B is opened, and both before OUT is touched. Where OUT is a file already that isn't empty,
+or a link, it stays, and the command ends (`refused 604`), except with --replace: OUT may then be A or B too. The ledger
+is written to a new file beside the one that OUT leads to, OUT.new, which takes its place once it is on the disk; links
+stay; after a failure the new file is left. A file OUT.new that is there already is removed first; where it leads to A or
+B, the new file is OUT.new.new. A device is written over. Standard error shows the progress, as of `bb report`.
 
 Exit status: 0 all was kept; 1 it wasn't, or a ledger was refused (`refused 404` no header with a readable
 table, `refused 405` the tables of the two headers differ, or one isn't in order); 2 a wrong command line;
@@ -236,10 +239,11 @@ Lines are arguments (after `--` where one begins with `-`), or in the file of --
 steps, for R rows, every E-th time is drawn, where E is one more than the whole part of K/R; a run that halts ends with
 its last time. Of W cells, for C columns, each column has W/C of them, rounded up, and the last what is left. With
 --width W the first head is in column W/2, rounded down, from 0 on; with --from a run that halts before begins at its
-last time. --square is reduced until neither side is longer than 1,000 pixels; --height makes rows as high as it
+last time. --square is reduced until the picture is at most 1,000 pixels wide; --height makes rows as high as it
 allows. With --png the picture has the light colours, without line and legend; it can't be given with --height. A
 record's certificate isn't judged. With --out the folder is made where it isn't there; a picture is made beside its
-place and put there, a link at its place stays, and a picture that can't be written ends the command.
+place and put there. One that is there already, or a link, stays, and ends the command (`refused 605`), except with
+--replace; so does a picture that can't be written.
 
 Exit status: 0 each line was a table or a record, and one at most without --out; 1 a line was refused; 2 a wrong
 command line; 3 out of memory (`refused memory`); 4 a stream failed (`refused 603`), or a picture couldn't be written
@@ -251,9 +255,9 @@ many entries are filled, the champions with pictures of their runs, and the hold
 and sorted; and what a tree shows that is complete. The ledger is read as by `bb report`. FILE may be a folder that
 `bb split` made: its page is that of all its ledgers together, which are read as by `bb join`.
 
-With --table records are read on standard input, a line each, in place of a ledger. For each record the page has a
-picture of its run, its transitions, what its certificate says in words, and the record to copy. With --title the page
-has that title.
+With --table records are read on standard input, a line each, in place of a ledger. For each record the page has its
+verdict, its certificate, what that says in words, and a button that draws its run. With --title the page has that title.
+Standard error shows the progress, as of `bb report`.
 
   bb page four.ledger --title 'Four states' > four.html
   bb decide --hard < tables.txt | bb page --table > tables.html
@@ -306,15 +310,14 @@ pub(crate) const JOIN: &str =
 counts as an open table. Standard error says what is wrong with a part, after its path: `missing`, `left LINE` as by
 `bb report`, `refused 404` no header with a readable table, `refused 405` its table doesn't name its states in order,
 `refused 406` its root is another table than its name says. Its records count as far as they are kept. With --ledger
-the one ledger is written too; it must be none of the folder's (`refused 408`).
+the one ledger is written too; it must be none of the folder's (`refused 408`), and replaces a file only with --replace.
 
 Standard input (`-`) is read to its end: the trunk's ledger first, and then those of its parts, one after the other in
 any order. Standard error says what is wrong with a part, after its root: `missing`, `left LINE`, `added before` where
 a part with that root came already, `not under the trunk`; or, where it has no root, after its number in the stream
 (`refused 404`, `refused 405`). A folder of that name is `./-`.
 
-Standard error shows the progress: at a terminal on one line that is written over, elsewhere with --progress, a line a
-second.
+Standard error shows the progress, as of `bb report`.
 
 One part is in memory at a time; parts are looked for under the trunk's open tables, and other files don't count. A
 trunk that can't be read is `refused 605`, one without a root `refused 404`. The one ledger has the trunk's lines, and
@@ -345,7 +348,7 @@ With --holdouts no lines are read: the tables that are recorded without a verdic
 texts, those of all parts of a folder.
 
 In a folder the trunk is loaded once, and a part when its tables are asked for; the last part is kept. Nothing is
-written. With --holdouts standard error says what is wrong with a folder, as by `bb join`.
+written. Standard error shows the progress, as of `bb report`. With --holdouts standard error says what is wrong with a folder, as by `bb join`.
 
 Exit status: 0 each table has a record; 1 one has none, or a line or a ledger was refused; 2 a wrong command line; 3
 out of memory (`refused memory`); 4 a file couldn't be read (`refused 605`), or a stream failed (`refused 603`).";
@@ -367,15 +370,15 @@ A text that is no table gets the answer `refused 301` with its fault, as by `bb 
 
 With --json each answer is an object, as by `bb check --json`, with the record as the member `record` in place of
 `ones` and `steps`.
-Standard error shows the progress: at a terminal on one line that is written over, elsewhere with --progress, a line a
-second.
+Standard error shows the progress, as of `bb report`.
 
-With --run the numbers of a search and --hard aren't used; halting is looked for within 100,000,000 steps at most, and a
-table with no pair that halts still gets `B 0` where its run comes to no loop.
+With --run the numbers of a search and --hard aren't used; a table with no pair that halts still gets `B 0` where its run
+comes to no loop.
 Loops are looked for within 10,000,000 steps at most. Words of n-grams are tried by width from 1 on, automata by stages
 (docs/FINDERS.md); --count is of both sides together. --hard has its own stages, and can't be given with --depth,
 --gram, --far, --words, --count or --rules. With --hard --steps scales the stages: with a thousand times the default,
-1000000, a table that none of them settles takes some hours. The file of --known is read once, before anything else.
+1000000, a table that none of them settles takes some hours. The file of --known is read once, before anything else; one
+with lines, none of which is a record, is refused.
 Its lines can be in any order; for each table the first counts that is a record of it and claims something. A record
 that doesn't stand is forgotten, and the search goes on. At a terminal standard error names the first line that is a
 record, at the end.
@@ -393,7 +396,8 @@ A record is a table in the bbchallenge standard format, a space and a certificat
   H k         it halts in k steps (the halting step counts); k up to 100,000,000
   H k s       so it does, and with s ones on its tape then (the halting step writes one)
   C i j       the configurations at the times i and j are equal; j up to 10,000,000
-  T i j side  they are, except for a shift to that side (L or R) and for what lies behind it
+  T i j side  they are equal up to a shift of the tape to that side (L or R), except for cells behind it that the
+              head no longer reads
   B d         it does d steps, and no configuration at all halts after exactly d; d up to 1,000
   N g L R C   no step leaves these words of g symbols on the left and on the right of the head, and these
               local configurations; g from 1 to 8, each list sorted and joined by commas, and the three

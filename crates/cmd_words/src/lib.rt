@@ -18,6 +18,7 @@ mod numbers;
 mod reading;
 mod sourcing;
 mod words;
+mod writing;
 
 pub use asking::{CommandLine, command_line, options};
 pub use line_fault::LineFault;

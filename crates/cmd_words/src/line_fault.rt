@@ -10,9 +10,10 @@ use thiserror::Error as Fault;
 
 /// Why there are no options: clap refused the words (also for a file where text is read on standard input) or was asked for
 /// help or the version; a word is no number of the range where one belongs, but a path or another text; a file is given in
-/// place of a line; the one ledger of a stream was asked for; a coordinator would listen where anyone may come, has no tree, or
+/// place of a line, or a record in several words; the one ledger of a stream was asked for; a coordinator would listen where anyone may come, has no tree, or
 /// is to wait for the disk without a ledger; a word isn't text; clap let through what it should have refused (two sources of
-/// lines, another command); known records would be read from standard input; or memory was refused.
+/// lines, another command); known records would be read from standard input; a file that is written would be `-`; or memory was
+/// refused.
 #[derive(Debug, Drop, Fault)]
 pub enum LineFault {
     #[error("{0}")]
@@ -26,6 +27,8 @@ else behind --ledger.\n")]
     FileForInput(Error),
     #[error("error: the arguments are tables or records, a line each: a file of them is given by --input FILE, or on standard input\n")]
     FileForLine,
+    #[error("error: a record is one argument, in quotes, as '1RB1LB_1LA--- H 6 4'\n")]
+    Unquoted,
     #[error("error: lines are arguments or in the file of --input, not both\n")]
     TwoSources,
     #[error("error: --ledger needs a folder: of standard input (`-`) no one ledger is written\n")]
@@ -44,11 +47,21 @@ else behind --ledger.\n")]
     OutOfRange(Number),
     #[error("error: --known takes a file, not standard input (a file of that name is ./-)\n")]
     KnownFromInput,
+    #[error("error: nothing is written to `-` (a file of that name is ./-)\n")]
+    OutputToDash,
     #[error("refused memory\n")]
     NoMemory,
 }
 
 impl LineFault {
+    /// Whether the version was asked for.
+    pub fn is_version(&self) -> bool {
+        match self {
+            LineFault::Refused(refused) => refused.kind() == ErrorKind::DisplayVersion,
+            _ => false,
+        }
+    }
+
     /// Writes it, help and the version to `answers`, all else to `faults`, and answers how the command line
     /// ended: `Accepted` after help or the version, `BadLine` after another fault, `NoMemory` or `Failed`
     /// where memory is refused or the stream fails.
@@ -61,6 +74,7 @@ impl LineFault {
             | LineFault::NoNumber(_)
             | LineFault::FileForInput(_)
             | LineFault::FileForLine
+            | LineFault::Unquoted
             | LineFault::TwoSources
             | LineFault::LedgerOfStream
             | LineFault::OpenToAll
@@ -69,7 +83,8 @@ impl LineFault {
             | LineFault::NotText
             | LineFault::NoSuchCommand
             | LineFault::OutOfRange(_)
-            | LineFault::KnownFromInput => false,
+            | LineFault::KnownFromInput
+            | LineFault::OutputToDash => false,
             LineFault::NoMemory => return Ended::NoMemory.told(faults),
         };
         let Ok(text) = format!(in alloc; "{self}") else {

@@ -10,7 +10,7 @@ use std::alloc::Global;
 pub(crate) fn no_number(alloc: Global, word: &str, number: Number) -> LineFault {
     match refusal(alloc, word, number) {
         Ok(text) => {
-            if word.contains(['/', '.']) {
+            if is_path(word) {
                 LineFault::PathForNumber(text)
             } else {
                 LineFault::NoNumber(text)
@@ -18,6 +18,14 @@ pub(crate) fn no_number(alloc: Global, word: &str, number: Number) -> LineFault 
         }
         Err(NoMemory) => LineFault::NoMemory,
     }
+}
+
+// Whether a word is more likely a path than a number that is written in another way.
+fn is_path(word: &str) -> bool {
+    let is_name = word
+        .bytes()
+        .any(|byte| byte.is_ascii_alphabetic() && byte != b'e');
+    word.contains('/') || (word.contains('.') && is_name)
 }
 
 fn refusal(alloc: Global, word: &str, number: Number) -> Result<String, NoMemory> {
@@ -35,13 +43,12 @@ fn refusal(alloc: Global, word: &str, number: Number) -> Result<String, NoMemory
 // Why it is no number of the range.
 fn reason(alloc: Global, word: &str, number: Number) -> Result<String, NoMemory> {
     let (least, most) = (number.least, number.most);
-    match (number_read(word), word.parse::<u64>()) {
-        (Some(given), _) if most == u64::MAX => {
+    match number_read(word) {
+        Some(given) if most == u64::MAX => {
             Ok(format!(in alloc; "{given} is not in {least}..{most}")?)
         }
-        (Some(given), _) => Ok(format!(in alloc; "{given} is not in {least}..={most}")?),
-        (None, Err(fault)) => Ok(format!(in alloc; "{fault}")?),
-        (None, Ok(_)) => Ok(String::new(alloc)),
+        Some(given) => Ok(format!(in alloc; "{given} is not in {least}..={most}")?),
+        None => "a number is written as 1000, 1_000 or 1e3".to_string(alloc),
     }
 }
 

@@ -2,7 +2,7 @@
 ghost use Rattle.std.specs.Prelude.{◌≡◌, ◌≤◌, IfOk, IfSome, codes};
 ghost use Rattle.cmd_options.specs.Ranges.{AreWithinRanges, IsSettling, IsWithinRange};
 ghost use Rattle.cmd_words.specs.Asked.{AsksFor, AsksFile, AsksSaving, AsksSearch, AsksSettling};
-ghost use Rattle.cmd_words.specs.Given.{IsArgument, IsFlag, IsLedger, IsNumber, IsNumberIf, IsTextIf, IsWrittenAt, rows_found};
+ghost use Rattle.cmd_words.specs.Given.{IsArgument, IsFlag, IsLedger, IsNumber, IsNumberIf, IsNumberOr, IsTextIf, IsWrittenAt, rows_found};
 
 use crate::arguments::*;
 use crate::coordinating::coord_options;
@@ -67,6 +67,7 @@ fn search_of<'a>(matches: &ArgMatches<'a>) -> Result<Search<'a>, LineFault>
         count: number_of(matches, COUNT)?,
         rules: number_of(matches, RULES)?,
         hard: flag_of(matches, HARD),
+        long_run: number_or(matches, LONG_RUN, LONG_RUN.most)?,
     })
 }
 
@@ -108,6 +109,15 @@ fn number_if_given(matches: &ArgMatches<'_>, number: Number) -> Result<Option<u6
         return Ok(None);
     }
     Ok(Some(number_of(matches, number)?))
+}
+
+// The number of an option, or, where it is left out or the command has no such option, another one within its range.
+fn number_or(matches: &ArgMatches<'_>, number: Number, other: u64) -> Result<u64, LineFault>
+    requires { (number.least ≤ other) × (other ≤ number.most) }
+    ensures within { IfOk result (λ given. (number.least ≤ given) × (given ≤ number.most)) }
+    ensures given { IfOk result (IsNumberOr (rows_found matches.now) number.name.now other) }
+{
+    Ok(number_if_given(matches, number)?.unwrap_or(other))
 }
 
 // The text of an option, if it is given.
@@ -325,6 +335,8 @@ fn merge_options<'a>(merge: &ArgMatches<'a>) -> Options<'a>
         first: argument_of(merge, FIRST),
         second: argument_of(merge, SECOND),
         out: argument_of(merge, MERGED),
+        replace: flag_of(merge, REPLACE),
+        progress: flag_of(merge, PROGRESS),
     })
 }
 
@@ -335,6 +347,8 @@ fn carry_options<'a>(carry: &ArgMatches<'a>) -> Options<'a>
     Options::Carry(Carrying {
         ledger: argument_of(carry, OLD),
         out: argument_of(carry, CARRIED),
+        replace: flag_of(carry, REPLACE),
+        progress: flag_of(carry, PROGRESS),
     })
 }
 
@@ -345,6 +359,8 @@ fn mend_options<'a>(mend: &ArgMatches<'a>) -> Options<'a>
     Options::Mend(Mending {
         ledger: argument_of(mend, DAMAGED),
         out: argument_of(mend, MENDED),
+        replace: flag_of(mend, REPLACE),
+        progress: flag_of(mend, PROGRESS),
     })
 }
 
@@ -379,6 +395,7 @@ fn join_options<'a>(join: &ArgMatches<'a>) -> Result<Options<'a>, LineFault>
     let joining = Joining {
         folder: argument_of(join, JOIN_READ),
         out: text_of(join, JOINED),
+        replace: flag_of(join, JOINED_REPLACE),
         json: flag_of(join, JSON),
         progress: flag_of(join, PROGRESS),
     };
@@ -395,6 +412,7 @@ fn look_options<'a>(look: &ArgMatches<'a>) -> Options<'a>
     Options::Look(Looking {
         path: argument_of(look, LOOKED),
         holdouts: flag_of(look, HOLDOUTS),
+        progress: flag_of(look, PROGRESS),
     })
 }
 
@@ -412,6 +430,7 @@ fn draw_options<'a>(draw: &ArgMatches<'a>) -> Result<Options<'a>, LineFault>
         height: number_if_given(draw, HEIGHT)?,
         png: flag_of(draw, PNG),
         out: text_of(draw, PICTURES),
+        replace: flag_of(draw, DRAWN_REPLACE),
     }))
 }
 
@@ -423,6 +442,7 @@ fn page_options<'a>(page: &ArgMatches<'a>) -> Options<'a>
     Options::Page(Paging {
         ledger: text_of(page, PAGED),
         title: text_of(page, TITLE),
+        progress: flag_of(page, PROGRESS),
     })
 }
 

@@ -38,6 +38,7 @@ pub(crate) fn source_of<'a>(
         (None, Some(lines)) if lines.iter().any(|line| names_file(line)) => {
             Err(LineFault::FileForLine)
         }
+        (None, Some(lines)) if lines.iter().any(|line| is_kind(line)) => Err(LineFault::Unquoted),
         (None, Some(lines)) => Ok(Source::Lines(Vec::from_slice(alloc, lines)?)),
         (Some(_), Some(_)) => Err(LineFault::TwoSources),
     }
@@ -49,6 +50,11 @@ fn texts_of<'b, 'a>(matches: &'b ArgMatches<'a>, text: Text) -> Option<&'b [&'a 
         ≡ all_of text.name.now (rows_found matches.now) }
 {
     matches.get_strs(text.name)
+}
+
+// Whether an argument is no line but the kind of a record.
+fn is_kind(line: &str) -> bool {
+    line.len() == 1 && line.bytes().all(|byte| byte.is_ascii_uppercase())
 }
 
 // Whether an argument is no line but the path of a file of lines: no table has such characters.

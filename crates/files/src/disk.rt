@@ -66,6 +66,9 @@ pub trait Disk {
     /// Whether another file may be put in the place of what stands at a path: there is a plain file, or nothing.
     fn is_replaceable(&self, path: &str) -> bool;
 
+    /// Whether a link is at a path, or a plain file that isn't empty: what would be lost if another file were put there.
+    fn is_taken(&self, path: &str) -> bool;
+
     /// What a file is written by.
     type File: DiskFile + Drop;
 

@@ -17,6 +17,8 @@ pub struct DiskMade<'a, D: Disk> {
     place: Place,
     // Of what is put in its place; while it is made it stands nowhere.
     durability: Durability,
+    // whether it may be put in place of what is there already
+    replace: bool,
     // none before it is begun
     ledger: Option<FileLedger<D::File>>,
     failures: u64,
@@ -24,13 +26,14 @@ pub struct DiskMade<'a, D: Disk> {
 
 impl<'a, D: Disk> DiskMade<'a, D> {
     /// A file at a place, not yet begun.
-    pub fn of(disk: &'a D, place: Place, durability: Durability) -> DiskMade<'a, D>
+    pub fn of(disk: &'a D, place: Place, durability: Durability, replace: bool) -> DiskMade<'a, D>
         ensures { text_written D.File.text (no_bytes D.knows) result.ledger ≡ no_bytes D.knows }
     {
         DiskMade {
             disk,
             place,
             durability,
+            replace,
             ledger: None,
             failures: 0,
         }
@@ -46,7 +49,7 @@ impl<'a, D: Disk> DiskMade<'a, D> {
         self.place.put(self.disk, self.durability)
     }
 
-    // Begins the file where it isn't begun yet.
+    // Begins the file where it isn't begun yet; what is at its place already stays, unless it is to be replaced.
     fn begin(&mut self) -> io::Result<()>
         ensures failures { self.new.failures ≡ self.old.failures }
         ensures text { text_written D.File.text (no_bytes D.knows) self.new.ledger
@@ -54,6 +57,9 @@ impl<'a, D: Disk> DiskMade<'a, D> {
     {
         if self.ledger.is_some() {
             return Ok(());
+        }
+        if !self.replace {
+            self.place.refuse_taken(self.disk)?;
         }
         let file = match &self.place {
             Place::Beside { made, .. } => self.disk.anew(made)?,

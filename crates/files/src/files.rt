@@ -78,8 +78,9 @@ pub trait Files {
     /// A file that is made, and stands nowhere yet.
     type Made: LedgerOut + Drop;
 
-    /// Begins a file that is to be put at a path, while those at these paths are read.
-    fn make(&self, file: &LedgerFile<'_>, read: &[&str]) -> io::Result<Self::Made>
+    /// Begins a file that is to be put at a path, while those at these paths are read. It can't be written to where a file
+    /// that isn't empty, or a link, is at the path already, unless it is to replace that.
+    fn make(&self, file: &LedgerFile<'_>, replace: bool, read: &[&str]) -> io::Result<Self::Made>
         ensures { IfOk result (λ made. IsBlank (Self.Made.text made)) };
 
     /// The name that is removed where a file is made, if one is.
@@ -105,6 +106,9 @@ pub trait Files {
     fn make_folder(&mut self, path: &str) -> io::Result<()>
         ensures kept { IsKept (holds self.old) (holds self.new) }
         ensures tells { IsToldStill (tells_same self.old) (tells_same self.new) };
+
+    /// Remembers that a command fails by the file at a path, and why.
+    fn remember(&self, _path: &str, _why: &'static str) {}
 
     /// Whether standard error is shown on a terminal.
     fn tells_terminal(&self) -> bool {

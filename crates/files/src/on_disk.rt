@@ -78,9 +78,14 @@ impl<'a, D: Disk> Files for OnDisk<'a, D> {
 
     type Made = DiskMade<'a, D>;
 
-    fn make(&self, file: &LedgerFile<'_>, read: &[&str]) -> io::Result<DiskMade<'a, D>> {
+    fn make(
+        &self,
+        file: &LedgerFile<'_>,
+        replace: bool,
+        read: &[&str],
+    ) -> io::Result<DiskMade<'a, D>> {
         let place = Place::of(self.alloc, self.disk, file.path, read)?;
-        Ok(DiskMade::of(self.disk, place, file.durability))
+        Ok(DiskMade::of(self.disk, place, file.durability, replace))
     }
 
     fn removed_by(&self, made: &DiskMade<'a, D>) -> Result<Option<String>, NoMemory> {
@@ -102,6 +107,10 @@ impl<'a, D: Disk> Files for OnDisk<'a, D> {
 
     fn make_folder(&mut self, path: &str) -> io::Result<()> {
         self.disk.make_folder(path)
+    }
+
+    fn remember(&self, path: &str, why: &'static str) {
+        self.disk.remember(path, &io::Error::other(why));
     }
 
     fn tells_terminal(&self) -> bool {

@@ -15,6 +15,8 @@ const MOST_SUFFIXES: u32 = 8;
 pub enum Place {
     /// In a new file beside the one that its path leads to, in whose place it is then put.
     Beside {
+        /// The path as it was given.
+        path: String,
         /// The path of the new file.
         made: String,
         /// The path in whose place it is put.
@@ -32,12 +34,13 @@ impl Place {
     /// those that are read; over a device. Fails where the links lead nowhere, or each such name is read.
     pub fn of<D: Disk>(alloc: Global, disk: &D, path: &str, read: &[&str]) -> io::Result<Place> {
         let end = disk.end_of(path)?;
-        if !disk.is_replaceable(&end) {
-            let path = path.to_string(alloc)?;
+        let is_replaceable = disk.is_replaceable(&end);
+        let path = path.to_string(alloc)?;
+        if !is_replaceable {
             return Ok(Place::Over { path });
         }
         let made = new_name(alloc, disk, &end, read)?;
-        Ok(Place::Beside { made, end })
+        Ok(Place::Beside { path, made, end })
     }
 
     /// The path of the new file; none where there is none.
@@ -48,11 +51,26 @@ impl Place {
         }
     }
 
+    /// Fails where a new file would take the place of something that is there: of a file that isn't empty, or of a link. Over a
+    /// device nothing is lost.
+    pub fn refuse_taken<D: Disk>(&self, disk: &D) -> io::Result<()> {
+        match self {
+            Place::Beside { path, .. } if disk.is_taken(path) => {
+                let fault = io::Error::other(
+                    "it is there already, and is replaced only with --replace",
+                );
+                disk.remember(path, &fault);
+                Err(fault)
+            }
+            _ => Ok(()),
+        }
+    }
+
     /// Puts a file that was made beside its place there; once it is on the disk, where that is asked for: then a power cut
     /// leaves one of the two there.
     pub fn put<D: Disk>(&self, disk: &D, durability: Durability) -> io::Result<()> {
         match self {
-            Place::Beside { made, end } => {
+            Place::Beside { made, end, .. } => {
                 if durability == Durability::Disk {
                     disk.sync(made)?;
                 }

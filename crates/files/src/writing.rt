@@ -18,11 +18,17 @@ pub fn ledger_at<H: Files>(host: &mut H, file: &LedgerFile<'_>) -> Result<H::Led
     }
 }
 
-/// Begins a new ledger, to be put at a path once it is on the disk, while those at these paths are read.
-pub fn made_for<H: Files>(host: &H, out: &str, read: &[&str]) -> Result<H::Made, Ended>
+/// Begins a new ledger, to be put at a path once it is on the disk, in place of what is there if that is to be replaced, while
+/// those at these paths are read.
+pub fn made_for<H: Files>(
+    host: &H,
+    out: &str,
+    replace: bool,
+    read: &[&str],
+) -> Result<H::Made, Ended>
     ensures { IfOk result (λ made. IsBlank (H.Made.text made)) }
 {
-    match host.make(&LedgerFile::on_disk(out), read) {
+    match host.make(&LedgerFile::on_disk(out), replace, read) {
         Ok(made) => Ok(made),
         Err(fault) => Err(ended_by(&fault, Ended::Ledger)),
     }

@@ -122,7 +122,7 @@ fn all_finders<'a>(
         finders.push(AnyFinder::Known(known))?;
     }
     if search.hard {
-        finders.push(AnyFinder::Hard(HardFinder::new(alloc)?))?;
+        finders.push(AnyFinder::Hard(HardFinder::new(alloc, search.long_run)?))?;
         return Ok(finders);
     }
     for letter in LETTERS {

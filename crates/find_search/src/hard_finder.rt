@@ -37,7 +37,8 @@ pub struct HardFinder {
 }
 
 impl HardFinder {
-    pub fn new(alloc: Global) -> Result<HardFinder, NoMemory> {
+    /// One whose stage of halting runs a table for `long_run` steps at most.
+    pub fn new(alloc: Global, long_run: u64) -> Result<HardFinder, NoMemory> {
         Ok(HardFinder {
             alloc,
             named: NamedTables::new(alloc)?,
@@ -46,7 +47,7 @@ impl HardFinder {
             // The stages name their words themselves.
             words: WordFinder::new(alloc, 0),
             automata: FarFinder::new(alloc, LARGEST),
-            halting: HaltFinder::new(alloc, MAX_HALT_STEPS),
+            halting: HaltFinder::new(alloc, long_run),
             cycle: CycleFinder::new(alloc, MAX_TIME),
             translated: TranslatedFinder::new(alloc, MAX_TIME),
             counted: CountedFinder::new(alloc, COUNTS),

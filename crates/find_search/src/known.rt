@@ -54,6 +54,11 @@ impl Known {
         self.refused
     }
 
+    // Whether there were lines, and each was refused.
+    pub(crate) fn tells_nothing(&self) -> bool {
+        self.told.is_empty() && self.refused.first.is_some()
+    }
+
     /// What is known of a table, where it stands. Where it doesn't, its line is refused, and nothing is known of the
     /// table from then on. Where memory is refused nothing changes.
     pub fn look_up(&mut self, t: &Table) -> Result<Option<OwnedCertificate>, NoMemory>

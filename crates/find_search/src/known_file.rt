@@ -19,7 +19,8 @@ pub struct KnownFile<'a> {
 }
 
 impl<'a> KnownFile<'a> {
-    /// The one that is asked for; none where none is. Errors: `File` where it can't be read, `NoMemory`.
+    /// The one that is asked for; none where none is. Errors: `File` where it can't be read, or has lines and none of them is a
+    /// record that claims something, as a compressed file has, `NoMemory`.
     pub fn asked<H: Files>(
         alloc: Global,
         asked: &Options<'a>,
@@ -35,6 +36,10 @@ impl<'a> KnownFile<'a> {
             Err(fault) => return Err(ended_by(&fault, Ended::File)),
         };
         match read_known(alloc, &mut file.reader, file.length) {
+            Ok(known) if known.tells_nothing() => {
+                files.remember(path, "none of its lines is a record");
+                Err(Ended::File)
+            }
             Ok(known) => Ok(Some(KnownFile {
                 path,
                 known: RefCell::new(known),

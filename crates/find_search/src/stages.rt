@@ -18,7 +18,7 @@ pub(crate) enum Stage {
     FurtherWords,
     // Automata of few states, with the tries of a budget of 1,000.
     Automata(Automata),
-    // Halting within `HALTING_STEPS`.
+    // Halting within the steps that the search asks for.
     Halting,
     // A cycle, and a translated cycle, as late as a claim may say.
     Cycles,

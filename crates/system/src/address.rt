@@ -9,6 +9,8 @@ pub enum Address<'a> {
     Port(u16),
     /// The path of a socket file.
     File(&'a str),
+    /// A number that is no port.
+    NoPort,
 }
 
 impl<'a> Address<'a> {
@@ -19,6 +21,7 @@ impl<'a> Address<'a> {
         }
         match text.parse::<u16>() {
             Ok(port) => Address::Port(port),
+            Err(_) if text.bytes().all(|byte| byte.is_ascii_digit()) => Address::NoPort,
             Err(_) => Address::Host(text),
         }
     }
@@ -28,7 +31,7 @@ impl<'a> Address<'a> {
         match self {
             Address::Host(host) => host.ends_with(":0"),
             Address::Port(port) => *port == 0,
-            Address::File(_) => false,
+            Address::File(_) | Address::NoPort => false,
         }
     }
 }

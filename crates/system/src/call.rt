@@ -82,6 +82,7 @@ impl CoordinatorStream {
             Address::Port(port) => {
                 CoordinatorStream::over(TcpStream::connect(rt, (Ipv4Addr::LOCALHOST, port))?)
             }
+            Address::NoPort => Err(io::Error::other("a port is 1 to 65535")),
             Address::File(path) => Ok(CoordinatorStream::Unix(UnixStream::connect(rt, path)?)),
         }
     }

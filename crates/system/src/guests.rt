@@ -123,10 +123,10 @@ pub(crate) fn is_guest(name: usize) -> bool {
 }
 
 impl<'a> Guests<'a> {
-    pub fn new(rt: &'a HostRuntime, token: Vec<u8>) -> Guests<'a> {
+    pub fn new(rt: &'a HostRuntime, herald: Herald<'a>, token: Vec<u8>) -> Guests<'a> {
         Guests {
             rt,
-            herald: Herald::new(rt),
+            herald,
             token,
             sockets: VecDeque::new(rt.alloc()),
             ready: VecDeque::new(rt.alloc()),
@@ -217,7 +217,7 @@ impl<'a> Guests<'a> {
 
     fn turn_away(&mut self, index: usize, why: TurnedAway) {
         if let Some(socket) = self.sockets.remove(index) {
-            self.herald.say(socket.origin, why);
+            self.herald.warn(socket.origin, why);
         }
     }
 

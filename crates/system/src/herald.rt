@@ -1,19 +1,19 @@
-// What is said at a terminal of those who come and go.
+// What is said of those who come and go.
+use crate::watch::Watch;
 use std::alloc::AllocError as NoMemory;
 use std::fmt;
-use std::io::{IsTerminal, Write};
+use std::io::Write;
 
 // How many lines are said in a second at most.
 const MOST_LINES: u32 = 20;
 
-// How many columns a line has at least, so that it covers the one that tells how far the work is.
-const COLUMNS: usize = 79;
-
-// Says it on standard error, where that is a terminal, and not too much of it.
-#[derive(Drop)]
+// Says it on standard error, and not too much of it.
+#[derive(Clone, Copy)]
 pub(crate) struct Herald<'a> {
     rt: &'a HostRuntime,
-    is_told: bool,
+    watch: &'a Watch,
+    // whether all is said, or only who is turned away
+    says_all: bool,
     // how many lines were said in this second
     said: u32,
     // and how many weren't
@@ -21,10 +21,11 @@ pub(crate) struct Herald<'a> {
 }
 
 impl<'a> Herald<'a> {
-    pub fn new(rt: &'a HostRuntime) -> Herald<'a> {
+    pub fn new(rt: &'a HostRuntime, watch: &'a Watch, says_all: bool) -> Herald<'a> {
         Herald {
             rt,
-            is_told: rt.stderr().is_terminal(),
+            watch,
+            says_all,
             said: 0,
             unsaid: 0,
         }
@@ -41,11 +42,15 @@ impl<'a> Herald<'a> {
         }
     }
 
-    // Says what became of somebody.
+    // Says what became of somebody, where all is said.
     pub fn say<T: fmt::Display + Drop, V: fmt::Display + Drop>(&mut self, who: T, what: V) {
-        if !self.is_told {
-            return;
+        if self.says_all {
+            self.warn(who, what);
         }
+    }
+
+    // Says it in any case.
+    pub fn warn<T: fmt::Display + Drop, V: fmt::Display + Drop>(&mut self, who: T, what: V) {
         if self.said >= MOST_LINES {
             self.unsaid = self.unsaid.saturating_add(1);
             return;
@@ -54,17 +59,13 @@ impl<'a> Herald<'a> {
         let _ = self.write(who, what);
     }
 
-    // A line in the place of the one that is written over.
     fn write<T: fmt::Display + Drop, V: fmt::Display + Drop>(
         &self,
         who: T,
         what: V,
     ) -> Result<(), NoMemory> {
-        let mut line = format!(in self.rt.alloc(); "\r{who} {what}")?;
-        for _ in line.len()..=COLUMNS {
-            line.push(' ')?;
-        }
-        line.push('\n')?;
+        let line = format!(in self.rt.alloc(); "{who} {what}\n")?;
+        self.watch.clear(self.rt);
         // Nothing hangs on whether it can be said.
         let _ = self.rt.stderr().write_all(line.as_bytes());
         Ok(())

@@ -1,6 +1,6 @@
 //! The system as the commands see it: its files, its clock, and the sockets of a coordinator and of a worker's process. What
 //! fails is remembered with its name, and what is read is watched. How far a long run is, is told while it goes on: at most
-//! once a second, by lines, or by one line of a terminal, which is written over and stands within 80 columns.
+//! once a second, by lines, or by one line of a terminal, which is written over, and is gone when something else is printed.
 //!
 //! What the system does no contract can say; `files` and `cmd_nodes` have what commands ask of it, `peers` what is asked of
 //! sockets: that each byte that came is handed over once and in its order, under the place of its connection, and that bytes
@@ -24,13 +24,11 @@ mod origin;
 mod peer_socket;
 mod peer_sockets;
 mod places;
+mod progress;
 mod saying;
 mod seconds;
 mod share;
 mod system;
-mod teller;
-mod telling;
-mod timed;
 mod token_shown;
 mod watch;
 mod watched_file;
@@ -43,9 +41,8 @@ pub use named_file::NamedFile;
 pub use named_socket::NamedSocket;
 pub use oddity::{FirstBytes, Oddity, Packing, oddity_of};
 pub use peer_sockets::PeerSockets;
-pub use saying::{Odd, Saying, Wording};
+pub use progress::{CountedDecider, ProgressTold, Telling, TimedProgress};
+pub use saying::{Odd, Saying};
 pub use system::{FileLock, System};
-pub use telling::{ReadingTold, Telling};
-pub use timed::{CountedDecider, TimedProgress};
 pub use watch::Watch;
 pub use watched_file::WatchedFile;

@@ -25,6 +25,7 @@ impl Listener {
             Address::Port(port) => {
                 Listener::over(net::TcpListener::bind(rt, (Ipv4Addr::LOCALHOST, port))?)
             }
+            Address::NoPort => Err(io::Error::other("a port is 1 to 65535")),
             Address::File(path) => {
                 remove_left_over(rt, path)?;
                 Ok(Listener::Unix(mio::net::UnixListener::bind(rt, path)?))

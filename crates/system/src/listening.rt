@@ -53,6 +53,7 @@ pub(crate) struct Listening<'a> {
 impl<'a> Listening<'a> {
     pub fn at(
         rt: &'a HostRuntime,
+        herald: Herald<'a>,
         address: Address<'_>,
         admission: Admission,
     ) -> io::Result<Listening<'a>> {
@@ -69,10 +70,10 @@ impl<'a> Listening<'a> {
             is_asked: true,
             has_let_in: false,
             turns: 0,
-            places: Places::new(rt.alloc(), Herald::new(rt)),
-            guests: guests_of(rt, token),
+            places: Places::new(rt.alloc(), herald),
+            guests: guests_of(rt, herald, token),
             per_address: usize::try_from(per_address).unwrap_or(MAX_PEERS),
-            herald: Herald::new(rt),
+            herald,
             seconds: Seconds::new(rt)?,
         })
     }
@@ -272,6 +273,10 @@ impl<'a> Listening<'a> {
 }
 
 // Guests are kept where there is a token.
-fn guests_of(rt: &HostRuntime, token: Option<Vec<u8>>) -> Option<Guests<'_>> {
-    Some(Guests::new(rt, token?))
+fn guests_of<'a>(
+    rt: &'a HostRuntime,
+    herald: Herald<'a>,
+    token: Option<Vec<u8>>,
+) -> Option<Guests<'a>> {
+    Some(Guests::new(rt, herald, token?))
 }

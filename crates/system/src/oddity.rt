@@ -1,7 +1,4 @@
 // What is odd of what is read, by how it begins.
-ghost use Rattle.std.specs.Prelude.{◌≡◌, ◌==◌, ◌<◌, ◌++◌, [], IfSome, length, position, take};
-ghost use Rattle.system.specs.Odd.{ends_in_return, oddity_of, packing_of};
-
 use arrayvec::ArrayVec;
 
 /// By what a file is compressed.
@@ -18,69 +15,47 @@ pub enum Packing {
 pub enum Oddity {
     /// A compressed file.
     Packed(Packing),
+    /// No text: several of its first bytes are 0.
+    NoText,
     /// A text whose first line ends in CR LF.
     CarriageReturn,
     /// A folder.
     Folder,
 }
 
-const XZ: [u8; 6] = [0xfd, 0x37, 0x7a, 0x58, 0x5a, 0x00];
+impl Oddity {
+    /// Whether there are no lines in it at all.
+    pub fn has_no_lines(self) -> bool {
+        matches!(self, Oddity::Packed(_) | Oddity::NoText)
+    }
+}
 
-const GZIP: [u8; 3] = [0x1f, 0x8b, 0x08];
+// What the bytes of each begin with.
+const PACKINGS: [(&[u8], Packing); 4] = [
+    (&[0xfd, 0x37, 0x7a, 0x58, 0x5a, 0x00], Packing::Xz),
+    (&[0x1f, 0x8b, 0x08], Packing::Gzip),
+    (&[0x28, 0xb5, 0x2f, 0xfd], Packing::Zstd),
+    (b"BZh", Packing::Bzip2),
+];
 
-const ZSTD: [u8; 4] = [0x28, 0xb5, 0x2f, 0xfd];
-
-const BZIP2: [u8; 3] = *b"BZh";
-
-const CARRIAGE_RETURN: u8 = 13;
+// A line with a damaged byte is a line still; a program, say, has more zeros than these where it begins.
+const MANY_ZEROS: usize = 8;
 
 /// What is odd of what begins so.
-#[tactic(auto, unfolding(crate::specs::Odd::oddity_found))]
-pub fn oddity_of(bytes: &[u8]) -> Option<Oddity>
-    ensures { result ≡ oddity_of bytes.now }
-{
-    match packing_of(bytes) {
-        Some(packing) => Some(Oddity::Packed(packing)),
-        None if ends_in_return(bytes) => Some(Oddity::CarriageReturn),
-        None => None,
+pub fn oddity_of(bytes: &[u8]) -> Option<Oddity> {
+    for (magic, packing) in PACKINGS {
+        if bytes.starts_with(magic) {
+            return Some(Oddity::Packed(packing));
+        }
     }
-}
-
-// By what something is compressed that begins so.
-#[tactic(auto, unfolding(crate::specs::Odd::packing_of))]
-fn packing_of(bytes: &[u8]) -> Option<Packing>
-    ensures { result ≡ packing_of bytes.now }
-{
-    if bytes.starts_with(&XZ) {
-        Some(Packing::Xz)
-    } else if bytes.starts_with(&GZIP) {
-        Some(Packing::Gzip)
-    } else if bytes.starts_with(&ZSTD) {
-        Some(Packing::Zstd)
-    } else if bytes.starts_with(&BZIP2) {
-        Some(Packing::Bzip2)
-    } else {
-        None
+    if bytes.iter().filter(|byte| **byte == 0).count() >= MANY_ZEROS {
+        return Some(Oddity::NoText);
     }
-}
-
-// Whether the first line ends in CR LF.
-#[tactic(auto, unfolding(crate::specs::Odd::ends_in_return))]
-fn ends_in_return(bytes: &[u8]) -> bool
-    ensures { result ≡ ends_in_return bytes.now }
-{
-    match newline_at(bytes) {
-        Some(at) => at > 0 && bytes[at - 1] == CARRIAGE_RETURN,
-        None => false,
+    let mut lines = bytes.split(|byte| *byte == b'\n');
+    match (lines.next(), lines.next()) {
+        (Some(first), Some(_)) if first.ends_with(b"\r") => Some(Oddity::CarriageReturn),
+        _ => None,
     }
-}
-
-// The place of the first newline.
-fn newline_at(bytes: &[u8]) -> Option<usize>
-    ensures place { result ≡ position (λ b. b == 10) bytes.now }
-    ensures within { IfSome result (λ at. at < length bytes.now) }
-{
-    bytes.iter().position(|byte| *byte == b'\n')
 }
 
 // How many bytes of a beginning are kept: more than a ledger's header has, or a line that is a table.
@@ -94,20 +69,15 @@ pub struct FirstBytes {
 
 impl FirstBytes {
     /// Nothing is read.
-    pub fn none() -> FirstBytes
-        ensures { result.bytes.items ≡ [] }
-    {
+    pub fn none() -> FirstBytes {
         FirstBytes {
             bytes: ArrayVec::new(),
         }
     }
 
     /// Reads these bytes next.
-    pub fn take(&mut self, piece: &[u8])
-        ensures { self.new.bytes.items ≡ take 80 (self.old.bytes.items ++ piece.now) }
-    {
-        let room = self.bytes.remaining_capacity();
-        let count = room.min(piece.len());
+    pub fn take(&mut self, piece: &[u8]) {
+        let count = self.bytes.remaining_capacity().min(piece.len());
         let _ = self.bytes.try_extend_from_slice(&piece[..count]);
     }
 
@@ -116,10 +86,13 @@ impl FirstBytes {
         self.bytes.is_full()
     }
 
+    /// The bytes.
+    pub fn bytes(&self) -> &[u8] {
+        &self.bytes
+    }
+
     /// What is odd of it.
-    pub fn oddity(&self) -> Option<Oddity>
-        ensures { result ≡ oddity_of self.now.bytes.items }
-    {
+    pub fn oddity(&self) -> Option<Oddity> {
         oddity_of(&self.bytes)
     }
 }

@@ -1,5 +1,6 @@
 // The peers of a coordinator, over the system's sockets.
 use crate::address::Address;
+use crate::herald::Herald;
 use crate::listening::Listening;
 use cmd_nodes::Admission;
 use peers::{Arrival, Connections, Dismissal, Dismissed};
@@ -22,13 +23,14 @@ pub struct PeerSockets<'a> {
 impl<'a> PeerSockets<'a> {
     /// Listens at an address. A socket file at which nobody listens any more is made anew; whatever else stands at the path of
     /// one stays, and is an error.
-    pub fn at(
+    pub(crate) fn at(
         rt: &'a HostRuntime,
+        herald: Herald<'a>,
         address: Address<'_>,
         admission: Admission,
     ) -> io::Result<PeerSockets<'a>> {
         Ok(PeerSockets {
-            listening: Listening::at(rt, address, admission)?,
+            listening: Listening::at(rt, herald, address, admission)?,
             failures: 0,
             dismissed: None,
         })

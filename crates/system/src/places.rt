@@ -304,7 +304,10 @@ impl<'a> Places<'a> {
 
     fn close(&mut self, place: usize, why: Leaving) {
         if let Some(Some(socket)) = self.sockets.get(place) {
-            self.herald.say(socket.origin, why);
+            match why {
+                Leaving::Dismissed(_) => self.herald.warn(socket.origin, why),
+                _ => self.herald.say(socket.origin, why),
+            }
         }
         if let Some(socket) = self.sockets.get_mut(place) {
             *socket = None;

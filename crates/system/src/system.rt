@@ -2,18 +2,19 @@
 use crate::address::Address;
 use crate::call::SocketCaller;
 use crate::failures::Failures;
+use crate::herald::Herald;
 use crate::named_file::NamedFile;
 use crate::named_socket::{LOOPBACK, NamedSocket};
 use crate::oddity::FirstBytes;
 use crate::peer_sockets::PeerSockets;
-use crate::saying::{Odd, Saying, Wording};
-use crate::telling::{ReadingTold, Telling};
+use crate::progress::{ProgressTold, Telling};
+use crate::saying::{Odd, Saying};
 use crate::watch::Watch;
 use crate::watched_file::WatchedFile;
 use cmd_nodes::{Admission, Network, Sockets};
 use cmd_options::{Ended, ended_by};
-use cmd_page::sum_of;
 use files::Disk;
+use sha2::{Digest, Sha256};
 use std::alloc::AllocError as NoMemory;
 use std::cell::Cell;
 use std::env;
@@ -31,8 +32,8 @@ pub struct System<'a> {
     watch: &'a Watch,
     // whether it was said last that no table is free
     idle: Cell<bool>,
-    // what is said where standard error isn't a terminal
-    words: Cell<Wording>,
+    // whether all words are said, also where standard error isn't a terminal
+    why: Cell<bool>,
 }
 
 impl<'a> System<'a> {
@@ -44,10 +45,7 @@ impl<'a> System<'a> {
             failures,
             watch,
             idle: Cell::new(false),
-            words: Cell::new(Wording {
-                why: false,
-                is_terse: true,
-            }),
+            why: Cell::new(false),
         }
     }
 
@@ -87,12 +85,18 @@ impl<'a> System<'a> {
         }
     }
 
+    // Whether all words are said.
+    fn says_all(&self) -> bool {
+        self.why.get() || self.tells_terminal()
+    }
+
     // Says a line at a terminal, and elsewhere where all is said; if there was memory for it.
     fn tell(&self, line: Result<String, NoMemory>) {
-        if self.words.get().are_all(self.tells_terminal())
+        if self.says_all()
             && let Ok(line) = line
         {
             // Nothing hangs on whether it can be said.
+            self.watch.clear(self.rt);
             let _ = writeln!(self.rt.stderr(), "{line}");
         }
     }
@@ -207,6 +211,13 @@ impl<'a> Disk for System<'a> {
         }
     }
 
+    fn is_taken(&self, path: &str) -> bool {
+        match fs::symlink_metadata(self.rt, path) {
+            Ok(found) => found.is_symlink() || (found.is_file() && found.len() > 0),
+            Err(_) => false,
+        }
+    }
+
     type File = NamedFile<'a>;
 
     fn go_on(&self, path: &str) -> io::Result<NamedFile<'a>> {
@@ -275,7 +286,9 @@ impl<'a> Disk for System<'a> {
     fn program_sum(&self) -> Option<[u8; 32]> {
         let path = env::current_exe(self.rt).ok()?;
         let mut file = fs::open(self.rt, path).ok()?;
-        sum_of(&mut file, u64::MAX).ok()
+        let mut bytes = Vec::new(self.rt.alloc());
+        file.read_to_end(&mut bytes).ok()?;
+        Some(Sha256::digest(&bytes))
     }
 
     fn tells_terminal(&self) -> bool {
@@ -283,13 +296,12 @@ impl<'a> Disk for System<'a> {
     }
 
     fn tell_cut(&self, path: &str, count: u64, kept_at: &str) {
-        if self.words.get().have_cuts(self.tells_terminal()) {
-            // Nothing hangs on whether it can be said.
-            let _ = writeln!(
-                self.rt.stderr(),
-                "{path}: {count} bytes were cut off, and are kept in {kept_at}"
-            );
-        }
+        // Nothing hangs on whether it can be said.
+        self.watch.clear(self.rt);
+        let _ = writeln!(
+            self.rt.stderr(),
+            "{path}: {count} bytes were cut off, and are kept in {kept_at}"
+        );
     }
 
     fn remember(&self, name: &str, fault: &io::Error) {
@@ -302,8 +314,18 @@ impl<'a> Disk for System<'a> {
 }
 
 impl Saying for System<'_> {
-    fn say(&self, words: Wording) {
-        self.words.set(words);
+    fn say_all(&self, why: bool) {
+        self.why.set(why);
+    }
+
+    fn tell_waiting(&self) {
+        if self.rt.stdin().is_terminal() {
+            // Nothing hangs on whether it can be said.
+            let _ = writeln!(
+                self.rt.stderr(),
+                "reading lines of standard input, to Ctrl-D"
+            );
+        }
     }
 
     fn odd(&self) -> Option<Odd> {
@@ -311,24 +333,40 @@ impl Saying for System<'_> {
     }
 }
 
-impl ReadingTold for System<'_> {
-    fn tell_reading(&self, telling: Telling, path: &str) {
-        let total = match fs::metadata(self.rt, path) {
-            Ok(found) if found.is_dir() => folder_bytes(self.rt, path).ok(),
-            Ok(found) if found.is_file() => Some(found.len()),
-            _ => None,
-        };
-        if let Some(total) = total {
+impl ProgressTold for System<'_> {
+    fn show(&self, telling: Telling, line: &str) {
+        self.watch.show(self.rt, telling, line);
+    }
+
+    fn finish(&self, telling: Telling, line: &str) {
+        self.watch.finish(self.rt, telling, line);
+    }
+
+    fn clear(&self) {
+        self.watch.clear(self.rt);
+    }
+
+    fn tell_reading(&self, telling: Telling, paths: &[&str]) {
+        let mut total: u64 = 0;
+        for path in paths {
+            total = total.saturating_add(bytes_at(self.rt, path));
+        }
+        if total > 0 {
             self.watch.begin(self.rt, telling, total);
         }
     }
 
-    fn pause_reading(&self) {
-        self.watch.pause(self.rt);
-    }
-
     fn end_reading(&self) {
         self.watch.end(self.rt);
+    }
+}
+
+// How many bytes a file has, or the files in a folder; none where neither is there.
+fn bytes_at(rt: &HostRuntime, path: &str) -> u64 {
+    match fs::metadata(rt, path) {
+        Ok(found) if found.is_dir() => folder_bytes(rt, path).unwrap_or_default(),
+        Ok(found) if found.is_file() => found.len(),
+        _ => 0,
     }
 }
 
@@ -393,7 +431,11 @@ impl<'a> Network for System<'a> {
 
     fn listen_at(&self, address: &str, admission: Admission) -> io::Result<PeerSockets<'a>> {
         let address_of = Address::of(address);
-        let sockets = self.noted(address, PeerSockets::at(self.rt, address_of, admission))?;
+        let herald = Herald::new(self.rt, self.watch, self.says_all());
+        let sockets = self.noted(
+            address,
+            PeerSockets::at(self.rt, herald, address_of, admission),
+        )?;
         if address_of.has_any_port() {
             let place = self.noted(address, sockets.place())?;
             // Nothing else says where it listens: a script reads it too.

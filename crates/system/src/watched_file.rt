@@ -69,7 +69,7 @@ impl WatchedFile<'_> {
     fn tell(&self) {
         let mut terminal = self.rt.stderr();
         if terminal.is_terminal() {
-            self.watch.pause(self.rt);
+            self.watch.clear(self.rt);
             // Nothing hangs on whether it can be said.
             let _ = writeln!(terminal, "judging Skelet 1, some half a minute ..");
         }

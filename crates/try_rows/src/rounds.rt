@@ -66,6 +66,7 @@ fn ran(alloc: Global, rounds: u64, lose: Option<u64>, workers: Vec<Probe<'_>>) -
             count: 0,
             rules: 0,
             hard: false,
+            long_run: 1,
         },
         json: false,
         progress: false,

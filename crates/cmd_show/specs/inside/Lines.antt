@@ -2,18 +2,14 @@
 use Rattle.std.specs.Prelude.{◌≡◌, ℕ, ◌+◌, ◌-◌, ◌≤◌, ◌^◌, Bool, true, false, pos, ◌-ℤ◌, min, List, [], ◌∷◌, ◌++◌, replicate}
 use Rattle.law_turing.specs.Machine.{Machine}
 use Rattle.run.specs.Limits.{run_step_limit}
-use Rattle.text.specs.Lines.{BoundedLine}
 use Rattle.cmd_show.specs.declared.layout.Frame.{Frame}
 use Rattle.cmd_show.specs.declared.layout.Layout.{Layout}
 use Rattle.cmd_show.specs.declared.layout.Layout.TheVariants.{Plain, Folded, Framed}
 use Rattle.cmd_show.specs.declared.ones.Stretch.{Stretch}
 use Rattle.cmd_show.specs.declared.times.Times.{Times}
 use Rattle.cmd_show.specs.declared.view.View.{View}
-use Rattle.cmd_options.specs.declared.options.Showing.{Showing}
-use Rattle.cmd_options.specs.declared.outcome.Outcome.{Outcome}
 use Rattle.cmd_show.specs.Layout.{IsFrame}
 use Rattle.cmd_show.specs.Moments.{ShownMoment, AreLinesOf}
-use Rattle.cmd_show.specs.Shown.{SaysShown}
 
 -- a view of all cells to which a run can come
 abbrev pub whole : View
@@ -55,8 +51,3 @@ AreLeft m t layout false n later text = AreLinesOf m t layout n later text
 pub record AreTold (m : Machine) (t : Times) (layout : Layout) (over : Bool) (n : ℕ) (told : List ℕ) : Type 0 where
   pub with_rest : (later : List ShownMoment) (rest : List ℕ) → AreLeft m t layout over n later rest
       → (all : List ShownMoment) × AreLinesOf m t layout 0 all (told ++ rest)
-
--- one who says what is asked for, and keeps that
-abbrev pub KeepsAsked : {D : Type 0} → (D → Showing) → D → BoundedLine → Outcome → D → List ℕ → Type 0
-KeepsAsked {D} asked old line o new said = (asked new ≡ asked old)
-    × (answer : List ℕ) × SaysShown (asked old) line o answer × (said ≡ answer ++ 10 ∷ [])

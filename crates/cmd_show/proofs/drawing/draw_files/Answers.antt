@@ -1,4 +1,3 @@
-use Rattle.std.proofs.Common.{ℕ, List}
 use Rattle.std.proofs.lemmas.Result.{IfErr-weaker}
 use Rattle.cmd_lines.proofs.Early.{none_said, said_so}
 use Rattle.cmd_lines.specs.First.{IsSaidToFirst}

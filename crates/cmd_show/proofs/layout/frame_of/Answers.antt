@@ -1,4 +1,4 @@
-use Rattle.std.proofs.Common.{◌≡◌, refl, rules}
+use Rattle.std.proofs.Common.{refl, rules}
 use Rattle.machine_text.specs.Packed.{entry_of}
 use Rattle.cmd_show.proofs.Framing.{placed_frame}
 use Rattle.cmd_show.proofs.layout.frame_of.Goals as goal

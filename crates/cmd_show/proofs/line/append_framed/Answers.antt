@@ -1,4 +1,4 @@
-use Rattle.std.proofs.Common.{◌≡◌, ℕ, ◌+◌, ◌-◌, ◌<◌, ◌≤◌, ◌++◌, ◌^◌, List, length, take, drop, sym, ◌∙◌, ap, subst, arith}
+use Rattle.std.proofs.Common.{◌≡◌, ◌+◌, ◌-◌, ◌<◌, ◌≤◌, ◌++◌, ◌^◌, List, length, take, drop, sym, ◌∙◌, ap, subst, arith}
 use Rattle.machine_text.specs.Packed.{entry_of}
 use Rattle.cmd_show.specs.declared.ones.Stretch.{Stretch}
 use Rattle.cmd_show.specs.Layout.{dotted}

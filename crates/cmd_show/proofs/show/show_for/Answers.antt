@@ -1,10 +1,13 @@
-use Rattle.cmd_show.specs.declared.show.Shower.{Shower}
-use Rattle.cmd_show.proofs.Keeping.{early_kept, stream_kept}
-use Rattle.cmd_lines.proofs.Early.{IfErr-passed}
+use Rattle.std.proofs.Common.{inl, refl, subst, List, ℕ}
+use Rattle.cmd_show.specs.inside.Printing.{KeepsLines}
+use Rattle.cmd_show.proofs.WholeLines.{keeps_all, keeps_both}
 use Rattle.cmd_show.proofs.show.show_for.Goals as goal
 
-pub returns-clause-ok : goal.returns-clause-ok
-returns-clause-ok g c = stream_kept {D = Shower} (λ s. s.showing) _ _ _ _ _ _ _ c.in_ok-outcome.ensures.ok
+pub pieces-init : goal.pieces-init
+pieces-init g c = subst (λ (waits : List ℕ). KeepsLines waits (g.W.Write.contents c.args.answers.now) c.new-printer.result.waits.items (g.W.Write.contents c.args.answers.now)) c.new-printer.ensures (keeps_all _ _)
 
-pub returns-in_err-outcome-clause-first : goal.returns-in_err-outcome-clause-first
-returns-in_err-outcome-clause-first g c = IfErr-passed c.from_residual.result _ _ c.from_residual.ensures.1 (early_kept {D = Shower} (λ s. s.showing) _ _ _ _ _ _ c.in_err-outcome.ensures.first)
+pub pieces-preserved : goal.pieces-preserved
+pieces-preserved g c = keeps_both _ _ _ _ _ _ c.pieces.invariant c.in_ok-print_all.ensures.lines
+
+pub returns-then-not-more-clause-lines : goal.returns-then-not-more-clause-lines
+returns-then-not-more-clause-lines g c = (keeps_both _ _ _ _ _ _ c.pieces.invariant c.in_ok-print_all.ensures.lines (inl refl)).1

@@ -1,10 +1,9 @@
-use Rattle.std.proofs.Common.{◌≡◌, ◌≤◌, ◌++◌, ◌∙◌, sym, subst}
+use Rattle.std.proofs.Common.{◌≤◌, ◌++◌, ◌∙◌, subst}
 use Rattle.machine_text.specs.Packed.{entry_of}
 use Rattle.cmd_show.specs.Rows.{shown_row}
 use Rattle.cmd_show.proofs.PictureLaws.{same_rows}
 use Rattle.cmd_show.specs.declared.times.Times.{Times}
 use Rattle.cmd_show.specs.Times.{last_time}
-use Rattle.cmd_show.specs.inside.Lines.{IsRoomFor}
 use Rattle.cmd_show.proofs.LineLaws.{fits_early, row_early, told_more, told_all, grown}
 use Rattle.cmd_show.proofs.shown.append_lines.Goals as goal
 

@@ -1,0 +1,178 @@
+// Runs of tables, printed a line at a time.
+ghost use Rattle.std.specs.Prelude.{◌≡◌, ◌⊎◌, [], IfErr, IfOk, OnOk};
+ghost use Rattle.machine_text.specs.Packed.{entry_of};
+ghost use Rattle.cmd_show.specs.Times.{AreWithinRuns, last_time};
+ghost use Rattle.cmd_show.specs.inside.Lines.{IsRoomFor, view_of};
+ghost use Rattle.cmd_show.specs.inside.Printing.{KeepsLines};
+
+use crate::layout::Layout;
+use crate::line::append_line;
+use crate::row::Row;
+use crate::rows::Rows;
+use crate::shown::shown_times;
+use cert::{RecordFault, append_table};
+use cmd_lines::append_fault;
+use cmd_options::{Ended, Outcome, Showing, write_in_full};
+use machine_text::Table;
+use std::alloc::Global;
+use std::io::Write;
+
+// So many bytes of lines are gathered before they are written.
+const MANY_BYTES: usize = 16_384;
+
+// Prints the runs of the tables that lines ask for.
+#[derive(Drop)]
+pub(crate) struct Printer {
+    alloc: Global,
+    showing: Showing,
+    // whole lines that wait to be written
+    waits: Vec<u8>,
+    // the line that is made
+    line: Vec<u8>,
+    outcome: Outcome,
+}
+
+impl Printer {
+    pub fn new(alloc: Global, showing: Showing) -> Printer
+        ensures { result.waits.items ≡ [] }
+    {
+        Printer {
+            alloc,
+            showing,
+            waits: Vec::new(alloc),
+            line: Vec::new(alloc),
+            outcome: Outcome::Accepted,
+        }
+    }
+
+    // Accepted where each line was.
+    pub fn outcome(&self) -> Outcome {
+        self.outcome
+    }
+
+    // Prints what each line asked for.
+    pub fn print_all<W: Write>(
+        &mut self,
+        asked: &[Result<Table, RecordFault>],
+        answers: &mut W,
+    ) -> Result<(), Ended>
+        ensures lines { OnOk result (KeepsLines self.old.waits.items (W.contents answers.old)
+            self.new.waits.items (W.contents answers.new)) }
+        ensures err { IfErr result (λ e. (e ≡ Ended.NoMemory) ⊎ (e ≡ Ended.Stream)) }
+    {
+        'lines: for table in asked {
+            self.print(table, answers)?;
+        }
+        Ok(())
+    }
+
+    // Prints what a line asked for, and writes it.
+    fn print<W: Write>(
+        &mut self,
+        asked: &Result<Table, RecordFault>,
+        answers: &mut W,
+    ) -> Result<(), Ended>
+        ensures lines { OnOk result (KeepsLines self.old.waits.items (W.contents answers.old)
+            self.new.waits.items (W.contents answers.new)) }
+        ensures err { IfErr result (λ e. (e ≡ Ended.NoMemory) ⊎ (e ≡ Ended.Stream)) }
+    {
+        self.line.clear();
+        let outcome = self.answer(asked, answers)?;
+        self.end_line(answers)?;
+        self.write(answers)?;
+        if self.outcome == Outcome::Accepted {
+            self.outcome = outcome;
+        }
+        Ok(())
+    }
+
+    // Makes the answer to a line; what is the last of it isn't ended.
+    fn answer<W: Write>(
+        &mut self,
+        asked: &Result<Table, RecordFault>,
+        answers: &mut W,
+    ) -> Result<Outcome, Ended>
+        ensures lines { IfOk result (λ o. KeepsLines self.old.waits.items (W.contents answers.old)
+            self.new.waits.items (W.contents answers.new)) }
+        ensures err { IfErr result (λ e. (e ≡ Ended.NoMemory) ⊎ (e ≡ Ended.Stream)) }
+    {
+        match asked {
+            Ok(t) => {
+                self.show(t, answers)?;
+                Ok(Outcome::Accepted)
+            }
+            Err(fault) => {
+                append_fault(*fault, &mut self.line)?;
+                Ok(Outcome::Refused)
+            }
+        }
+    }
+
+    // The table's text, and behind it a line for each time of its run that is asked for.
+    fn show<W: Write>(&mut self, t: &Table, answers: &mut W) -> Result<(), Ended>
+        ensures lines { OnOk result (KeepsLines self.old.waits.items (W.contents answers.old)
+            self.new.waits.items (W.contents answers.new)) }
+        ensures err { IfErr result (λ e. (e ≡ Ended.NoMemory) ⊎ (e ≡ Ended.Stream)) }
+    {
+        append_table(t, &mut self.line)?;
+        let times = shown_times(&self.showing);
+        let layout = Layout::of(self.alloc, t, &self.showing, times)?;
+        let mut rows = Rows::new(self.alloc, *t, layout.view(), times)?;
+        self.show_rows(t, layout, &mut rows, answers)
+    }
+
+    // The lines of all rows, from the first one on.
+    fn show_rows<W: Write>(
+        &mut self,
+        t: &Table,
+        layout: Layout,
+        rows: &mut Rows,
+        answers: &mut W,
+    ) -> Result<(), Ended>
+        requires table { rows.old.table ≡ t.now }
+        requires view { rows.old.view ≡ view_of layout }
+        requires within { AreWithinRuns rows.old.times }
+        requires fits { IsRoomFor layout (entry_of t.now) (last_time rows.old.times) }
+        ensures lines { OnOk result (KeepsLines self.old.waits.items (W.contents answers.old)
+            self.new.waits.items (W.contents answers.new)) }
+        ensures err { IfErr result (λ e. (e ≡ Ended.NoMemory) ⊎ (e ≡ Ended.Stream)) }
+    {
+        let mut row = Row::new(self.alloc);
+        let mut cells = Vec::new(self.alloc);
+        let mut text = Vec::new(self.alloc);
+        'each: while rows.next_row(&mut row)? {
+            self.end_line(answers)?;
+            text.clear();
+            append_line(self.alloc, t, layout, &row, &mut cells, &mut text)?;
+            // The newline in front has ended the line before.
+            let row_text = text.get(1..).unwrap_or_default();
+            self.line.extend_from_slice(row_text)?;
+        }
+        Ok(())
+    }
+
+    // Ends the line that was made; lines are written once there are many.
+    fn end_line<W: Write>(&mut self, answers: &mut W) -> Result<(), Ended>
+        ensures lines { OnOk result (KeepsLines self.old.waits.items (W.contents answers.old)
+            self.new.waits.items (W.contents answers.new)) }
+        ensures err { IfErr result (λ e. (e ≡ Ended.NoMemory) ⊎ (e ≡ Ended.Stream)) }
+    {
+        self.line.extend_from_slice(b"\n")?;
+        self.waits.append(&mut self.line)?;
+        if self.waits.len() < MANY_BYTES {
+            return Ok(());
+        }
+        self.write(answers)
+    }
+
+    // Writes the lines that wait.
+    fn write<W: Write>(&mut self, answers: &mut W) -> Result<(), Ended>
+        ensures lines { OnOk result (KeepsLines self.old.waits.items (W.contents answers.old)
+            self.new.waits.items (W.contents answers.new)) }
+        ensures err { IfErr result (λ e. e ≡ Ended.Stream) }
+    {
+        let written = write_in_full(&self.waits, answers);
+        self.waits.clear();
+        Ok(written?)
+    }
+}

@@ -6,7 +6,6 @@ use crate::finding::{Finding, say_automaton, say_scaled};
 use crate::keeping::Caller;
 use crate::nodes::Station;
 use crate::records::{say_judged, say_repeats};
-use crate::rounds::say_rounds;
 use crate::said::Said;
 use crate::tapes::{say_steps, say_sweeps};
 use crate::words::{parted, unread};
@@ -20,7 +19,7 @@ pub struct Desk {
     bytes: Vec<u8>,
     finding: Finding,
     station: Station,
-    // what was given: the rows of a session or what workers say, and what a session's ledger holds at its end
+    // the rows of a session, and what its ledger holds at its end
     given: String,
     kept: Vec<u8>,
 }
@@ -106,7 +105,6 @@ impl Caller for Desk {
                 self.given.push_str(rest)?;
                 said.text("given")
             }
-            "rounds" => say_rounds(self.alloc, rest, self.given.as_str(), said),
             "on" | "worker" | "kept" => self.call_with_bytes(name, "", rest, said),
             "fails" => {
                 let (device, text) = parted(rest);

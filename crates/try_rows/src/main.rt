@@ -1,6 +1,6 @@
 //! Keeps the rows of `data/`, of calls of which no clause says what comes: what finders find, what both roles answer as events
-//! come one after another, devices that fail, what workers see of rounds, and that a tape in words is as a plain one. Each file
-//! begins with the words of its calls.
+//! come one after another, devices that fail, and that a tape in words is as a plain one. Each file begins with the words of its
+//! calls.
 //!
 //! A file of rows has one on each line, `CALL = ANSWER`; lines that are empty or begin with `#` say nothing. The program
 //! makes the calls in their order and stops at the first that is answered otherwise, also where a row can't be read. A
@@ -17,9 +17,7 @@ mod finding;
 mod keeping;
 mod nodes;
 mod plain;
-mod probe;
 mod records;
-mod rounds;
 mod said;
 mod tapes;
 mod words;

@@ -190,10 +190,10 @@ def lines(many):
 
 def checks(plain, records, five):
     short = [line for line in records[:RECORDS] if line.split()[1] in b"HCT"]
-    long = run([PROGRAM, "decide", "--hard"], lines(five))[1].splitlines()
-    for name, text in (("short records of four states", short), (f"{TABLES:,} records of five states", long)):
-        work = Work([["check"]], lines(text))
-        yield Row(f"`check`, {name}", len(text), work, Work([[plain["plain_short"]]], work.text), same, times=AGAIN)
+    work = Work([["check"]], lines(short))
+    yield Row("`check`, short records of four states", len(short), work, Work([[plain["plain_short"]]], work.text), same, times=AGAIN)
+    long = Work([["check"]], run([PROGRAM, "decide", "--hard"], lines(five))[1])
+    yield Row(f"`check`, {TABLES:,} records of five states", TABLES, long, why="no plain program judges each kind", times=AGAIN)
 
 
 def decides(plain, five, six):

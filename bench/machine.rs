@@ -27,28 +27,6 @@ pub fn parse(text: &[u8]) -> Result<Vec<Row>, (u16, Option<usize>)> {
         .collect())
 }
 
-/// The table and the five fields of a record of a kind that has as many, or what is answered where it isn't one.
-pub fn record<'a>(line: &'a str, kind: &str) -> Result<(Vec<Row>, Vec<&'a str>), String> {
-    record_of(line, kind, 5)
-}
-
-/// The same of a kind with so many fields.
-pub fn record_of<'a>(line: &'a str, kind: &str, count: usize) -> Result<(Vec<Row>, Vec<&'a str>), String> {
-    if line.len() > 65_000 {
-        return Err("refused 305".to_string());
-    }
-    let parts: Vec<&str> = line.split(' ').collect();
-    let table = match parse(parts[0].as_bytes()) {
-        Ok(table) => table,
-        Err((number, None)) => return Err(format!("refused 301 {number}")),
-        Err((number, Some(place))) => return Err(format!("refused 301 {number} {place}")),
-    };
-    if parts.len() != count + 2 || parts[1] != kind {
-        return Err("refused 302".to_string());
-    }
-    Ok((table, parts[2..].to_vec()))
-}
-
 fn is_letter(states: usize, byte: u8) -> bool {
     (b'A'..b'A' + states as u8).contains(&byte)
 }

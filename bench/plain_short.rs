@@ -1,17 +1,13 @@
 //! What bb check does, in plain Rust that is written for speed: halting and loops within some steps are judged on a tape of that
-//! width, in tables of sixteen bytes; whatever else there is goes to plain_check.rs. Build with
-//! `rustc --edition 2021 -O plain_short.rs`. Reads records from standard input; one that isn't accepted is `TABLE refused`.
+//! width, in tables of sixteen bytes; no other record is accepted. Build with `rustc --edition 2021 -O plain_short.rs`. Reads records
+//! from standard input; one that isn't accepted is `TABLE refused`.
 #[allow(dead_code)]
 mod bytes;
-// with a path, what it uses is looked for in this folder
-#[allow(dead_code)]
-#[path = "plain_check.rs"]
-mod plain_check;
 
 use bytes::{Table, RIGHT, STOP};
 use std::io::{self, BufRead, BufWriter, Write};
 
-/// Runs of more steps are left to plain_check.rs.
+/// Runs of more steps aren't judged.
 const MOST: u64 = 100_000;
 const ORIGIN: usize = MOST as usize + 1;
 
@@ -124,9 +120,8 @@ fn answer(line: &[u8], run: &mut Run, out: &mut Vec<u8>) {
         }
         out.clear();
     }
-    let line = String::from_utf8_lossy(line);
-    let verdict = plain_check::verdict(&line).unwrap_or_else(|| "refused".to_string());
-    out.extend_from_slice(format!("{} {verdict}", line.split(' ').next().unwrap_or("")).as_bytes());
+    out.extend_from_slice(fields[0]);
+    out.extend_from_slice(b" refused");
 }
 
 fn main() -> io::Result<()> {

@@ -3,3 +3,4 @@ mod Joining
 mod Keeping
 mod Running
 mod Saving
+mod Walking

@@ -1,5 +1,5 @@
 -- `bb coord --listen`.
-use Rattle.std.specs.Prelude.{◌≡◌, ◌⊎◌, ℕ, Bool, true, false, List, Option, IfNone, OnErr, Result, Ok, Err}
+use Rattle.std.specs.Prelude.{◌≡◌, ◌⊎◌, ℕ, Bool, true, false, List, Option, IfNone, IfSome, OnErr, Result, Ok, Err}
 use Rattle.std.specs.declared.io.Error.{Error}
 use Rattle.files.specs.Paths.{SameFile, Shelf, IsKept}
 use Rattle.files.specs.declared.opened.Opened.{Opened}
@@ -19,10 +19,11 @@ use Rattle.cmd_nodes.specs.Settled.{IsBegunOfPart, IsSettledBoard, SettlesPart}
 use Rattle.cmd_dispatch.specs.Ends.{Said}
 use Rattle.cmd_dispatch.specs.Kept.{IsContinued, KeepsLedgerOf, LeavesUnbegun}
 
--- who may hand in holdouts: anyone where that is asked for; where it isn't, nobody without a token
+-- who may hand in holdouts: anyone where that is asked for, and who has shown a token; nobody else
 abbrev pub IsConductOf : Listening → Conduct → Type 0
 IsConductOf l conduct = (l.accept_holdouts ≡ true → conduct.takes_holdouts ≡ true)
     × (l.accept_holdouts ≡ false → IfNone l.token (conduct.takes_holdouts ≡ false))
+    × IfSome l.token (λ _. conduct.takes_holdouts ≡ true)
 
 -- it can't listen, or not write its ledger: no answer is said, and this is left
 abbrev pub ListensNever : Type 0 → Said → Result Outcome Ended → Type 0

@@ -16,7 +16,7 @@ use Rattle.cmd_options.specs.declared.options.Walking.{Walking}
 use Rattle.cmd_options.specs.declared.outcome.Outcome.{Outcome}
 use Rattle.cmd_options.specs.declared.outcome.Outcome.TheVariants.{Accepted}
 use Rattle.cmd_json.specs.Forms.{IsText, form_of}
-use Rattle.cmd_ledgers.specs.Settled.{SettlesTree}
+use Rattle.cmd_ledgers.specs.Settled.{SettlesTree, TellsTree}
 use Rattle.cmd_nodes.specs.Settled.{CoordinatesTree, IsRunBoard, IsServedBoard}
 use Rattle.cmd_parts.specs.Walking.{IsWalkedBoard, WalksTree}
 use Rattle.cmd_dispatch.specs.Ends.{Said, EndsLate, ToldApart, ToldBehind}
@@ -60,7 +60,9 @@ abbrev pub IsRootOf : Walking → Packed → Type 0
 IsRootOf w root = IfNone w.root (root ≡ empty_table w.states)
     × IfSome w.root (λ text. (table_of text.now ≡ Ok root) × (root.states ≡ w.states))
 
--- `bb walk`
+-- `bb walk`: a whole tree is settled as `bb run` settles it, and so is what stands below a table
 abbrev pub WalksBy : {D : Type 0} → (D → Packed → Recorded → Type 0) → Walking → Said → Outcome → Type 0
-WalksBy {D} answers w s o = (root : Packed) × IsRootOf w root × EndsLate (ToldApart
-    (WalksTree (IsText (form_of w.json)) root (IsWalkedBoard D answers) s.held s.new_held)) o
+WalksBy {D} answers w s o = (root : Packed) × IsRootOf w root
+    × EndsLate (λ last. ToldApart
+    (WalksTree (IsText (form_of w.json)) root (IsWalkedBoard D answers) s.held s.new_held) last
+    × IfNone w.root (TellsTree (IsText (form_of w.json)) w.states (IsWalkedBoard D answers) s.held s.new_held last)) o

@@ -1,6 +1,7 @@
 // `bb walk`.
-ghost use Rattle.std.specs.Prelude.{◌≡◌, ◌⊎◌, IfOk, OnErr};
+ghost use Rattle.std.specs.Prelude.{◌≡◌, ◌⊎◌, IfNone, IfOk, OnErr};
 ghost use Rattle.cmd_json.specs.Forms.{IsText, form_of};
+ghost use Rattle.cmd_ledgers.specs.Settled.{TellsTree};
 ghost use Rattle.cmd_options.specs.Ranges.{IsWalking};
 ghost use Rattle.files.specs.Paths.{IsKeptBut};
 ghost use Rattle.cmd_parts.specs.Walking.{IsWalkedBoard, WalksTree};
@@ -65,6 +66,7 @@ fn walk_found<S: Disk + Clock + ProgressTold, W: Write, E: Write>(
     answers: &mut W,
     faults: &mut E,
 ) -> Result<Outcome, Ended>
+    requires { IsWalking walking.now }
     requires { IsRootOf walking.now root }
     ensures { Once (WalksBy ⟦<Finders<AnyFinder<'static>> as Decider>⟧.answers walking.now
         (output_of (W.contents answers.old)
@@ -100,6 +102,7 @@ fn walk_saved<S: Disk + Clock + ProgressTold, H: Files, W: Write, E: Write>(
     answers: &mut W,
     faults: &mut E,
 ) -> Result<Outcome, Ended>
+    requires { IsWalking walking.now }
     requires { IsRootOf walking.now root }
     ensures saves { IsKeptBut (H.tells_same files.old) saving.entry.path.now (H.holds files.old) (H.holds files.new) }
     ensures walks { OnceSaved (WalksBy ⟦<SavingDecider<Finders<AnyFinder<'static>>, H::Ledger> as Decider>⟧.answers
@@ -208,9 +211,14 @@ fn walk_by<D: Decider, S: Disk + Clock + ProgressTold, W: Write, E: Write>(
     answers: &mut W,
     faults: &mut E,
 ) -> Result<(Outcome, Late), Ended>
+    requires { IsWalking walking.now }
+    requires { IsRootOf walking.now root }
     ensures walks { IfOk result (λ r. ToldApart (WalksTree (IsText (form_of walking.now.json)) root
         (IsWalkedBoard D D.answers)
-        (W.contents answers.old) (W.contents answers.new)) r.0) }
+        (W.contents answers.old) (W.contents answers.new)) r.0
+        × IfNone walking.now.root (TellsTree (IsText (form_of walking.now.json)) walking.now.states
+        (IsWalkedBoard D D.answers)
+        (W.contents answers.old) (W.contents answers.new) r.0)) }
     ensures err { OnErr result (W.contents answers.new ≡ W.contents answers.old) }
 {
     let telling = Telling::of(walking.progress, system.tells_terminal());

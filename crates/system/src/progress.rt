@@ -11,8 +11,8 @@ use machine_text::Table;
 use std::alloc::Global;
 use std::time::{Clock, Duration, Instant};
 
-// The least time between two lines, and for how long lines of a ledger are gathered at most.
-const SECOND: Duration = Duration::from_secs(1);
+// The least time between two lines, and for how long lines of a ledger are gathered at most, in milliseconds.
+const SECOND: u64 = 1_000;
 
 // How long the rest takes is said once this part of the whole is done.
 const SURE_PART: u64 = 20;
@@ -194,7 +194,7 @@ impl Meter {
             return false;
         };
         self.now.milliseconds = gone;
-        let is_due = u128::from(gone.saturating_sub(self.last.unwrap_or(0))) >= SECOND.as_millis();
+        let is_due = gone.saturating_sub(self.last.unwrap_or(0)) >= SECOND;
         if is_due {
             self.last = Some(gone);
         }
@@ -319,6 +319,11 @@ impl<'a, S: Clock + ProgressTold> TimedProgress<'a, S> {
         }
     }
 
+    fn count(&mut self) {
+        let line = self.meter.counted(1, self.system);
+        self.show(line);
+    }
+
     fn show(&self, line: Option<String>) {
         if let Some(line) = line {
             self.system.show(self.meter.telling, &line);
@@ -340,7 +345,7 @@ impl<'a, S: Clock + ProgressTold> Progress for TimedProgress<'a, S> {
     fn is_due(&mut self) -> bool {
         let now = Instant::now(self.system).ok();
         let is_due = match (self.gathered, now) {
-            (Some(since), Some(now)) => now.duration_since(since) >= SECOND,
+            (Some(since), Some(now)) => now.duration_since(since) >= Duration::from_millis(SECOND),
             // Without a clock nothing is held back.
             _ => true,
         };
@@ -374,23 +379,18 @@ impl<'a, D: Decider, S: Clock + ProgressTold> CountedDecider<'a, D, S> {
     pub fn end(&mut self) {
         self.progress.end();
     }
-
-    fn count(&mut self) {
-        let line = self.progress.meter.counted(1, self.progress.system);
-        self.progress.show(line);
-    }
 }
 
 impl<'a, D: Decider, S: Clock + ProgressTold> Decider for CountedDecider<'a, D, S> {
     ghost answers = { λ asked p r. D.answers asked.decider.now p r };
 
     fn decide(&mut self, alloc: Global, t: &Table) -> Result<OwnedRecord, NoMemory> {
-        self.count();
+        self.progress.count();
         self.decider.decide(alloc, t)
     }
 
     fn decide_judged(&mut self, alloc: Global, t: &Table) -> Result<Decided, NoMemory> {
-        self.count();
+        self.progress.count();
         self.decider.decide_judged(alloc, t)
     }
 }

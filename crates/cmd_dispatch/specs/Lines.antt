@@ -109,10 +109,10 @@ DoesShow s (Err e) = ⊥
 -- `bb draw`: the picture of the first table as an answer, and no file changes; or those of all as files of a folder
 abbrev pub Draws : {H : Type 0} → (H → SameFile) → (H → Shelf) → Drawing → H → H → Input → Said → Outcome → Type 0
 Draws tells holds drawing host new_host i s o =
-    IfNone drawing.out (EndsPicture drawing i.read i.new_read s.held s.new_held s.faults s.new_faults o)
+    IfNone drawing.out (EndsPicture i.read i.new_read s.held s.new_held s.faults s.new_faults o)
     × IfNone drawing.out (new_host ≡ host)
-    × IfSome drawing.out (λ folder. SaysLines (DrawsFiles tells holds folder.now drawing host)
-    (DrawsFirstLines tells holds folder.now drawing host) i s o)
+    × IfSome drawing.out (λ folder. SaysLines (DrawsFiles tells holds folder.now host)
+    (DrawsFirstLines tells holds folder.now host) i s o)
 
 -- `bb tables`
 abbrev pub DoesList : Listing → Input → Said → Result Outcome Ended → Type 0

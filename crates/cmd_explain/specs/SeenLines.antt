@@ -1,6 +1,6 @@
 -- What `bb explain --run K` prints for a line: of a table that nothing is claimed of what is seen in K steps of its run, and
--- its first configurations as `bb show --fold` prints them; of any other line what `bb explain` prints.
-use Rattle.std.specs.Prelude.{◌≡◌, ℕ, min, false, true, List, [], ◌∷◌, ◌++◌, Option, Some, None, Result, Ok, Err}
+-- the lines of its run; of any other line what `bb explain` prints.
+use Rattle.std.specs.Prelude.{◌≡◌, ℕ, min, List, [], ◌∷◌, ◌++◌, Option, Some, None, Result, Ok, Err}
 use Rattle.machine_text.specs.Packed.{Packed}
 use Rattle.machine_text.specs.Text.{table_of, text_of}
 use Rattle.machine_text.specs.declared.faults.TextFault.{TextFault}
@@ -8,7 +8,6 @@ use Rattle.run.specs.Limits.{run_step_limit}
 use Rattle.cert.specs.Claim.{Claim, HaltsClaim, NeverClaim, NoClaim, Recorded}
 use Rattle.cert.specs.declared.record_fault.RecordFault.{RecordFault}
 use Rattle.cmd_lines.specs.Answer.{read_line}
-use Rattle.cmd_options.specs.declared.options.Showing.{Showing}
 use Rattle.cmd_options.specs.declared.outcome.Outcome.{Outcome}
 use Rattle.cmd_options.specs.declared.outcome.Outcome.TheVariants.{Accepted}
 use Rattle.cmd_show.specs.Shown.{IsShownRun}
@@ -34,15 +33,11 @@ abbrev pub table_run : Option (List ℕ) → Result Recorded RecordFault → Opt
 table_run line (Ok r) = table_if r.claim r.table
 table_run line (Err f) = table_alone line
 
--- a hundred steps of it are shown, and none beyond those that are seen
-abbrev pub first_steps : ℕ → Showing
-first_steps k = record { from = 0; steps = min k 100; every = 1; fold = true; align = false }
-
 pub record SeesRun (k : ℕ) (p : Packed) (answer : List ℕ) : Type 0 where
   pub words : List ℕ
   pub shown : List ℕ
   pub told : TellsSeen p k words
-  pub run : IsShownRun (first_steps k) p shown
+  pub run : IsShownRun p shown
   pub is : answer ≡ text_of p ++ words ++ shown ++ 10 ∷ []
 
 abbrev pub SeesTable : ℕ → Option Packed → Option (List ℕ) → Outcome → List ℕ → Type 0

@@ -7,7 +7,7 @@ ghost use Rattle.cmd_lines.specs.Answer.{read_line};
 ghost use Rattle.cmd_lines.specs.First.{AnswersFirst, WritesFirst};
 ghost use Rattle.cmd_lines.specs.Stream.{AnswersStream};
 ghost use Rattle.cmd_lines.specs.Taken.{lent};
-ghost use Rattle.cmd_explain.specs.SeenLines.{SaysSeen, SeesRun, first_steps, table_alone, table_if, table_parsed, table_run};
+ghost use Rattle.cmd_explain.specs.SeenLines.{SaysSeen, SeesRun, table_alone, table_if, table_parsed, table_run};
 
 use crate::explain::explain_line_in_full;
 use crate::seen_words::append_seen;
@@ -142,9 +142,8 @@ fn append_run(alloc: Global, steps: u64, t: &Table, out: &mut Vec<u8>) -> Result
     Ok(())
 }
 
-fn first_steps(steps: u64) -> Showing
-    ensures { result ≡ first_steps steps }
-{
+// A hundred steps are shown, folded, and none beyond those that are seen.
+fn first_steps(steps: u64) -> Showing {
     Showing {
         from: 0,
         steps: steps.min(SHOWN_STEPS),

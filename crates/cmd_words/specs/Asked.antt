@@ -96,7 +96,6 @@ pub record AsksDraw (given : List Row) (d : Drawing) : Type 0 where
   pub columns : IsNumber given (codes "columns") d.columns
   pub square : IsNumber given (codes "square") d.square
   pub height : IsNumberIf given (codes "height") d.height
-  pub png : IsFlag given (codes "png") d.png
   pub out : IsTextIf given (codes "out") d.out
   pub replace : IsFlag given (codes "replace") d.replace
 

@@ -129,7 +129,6 @@ draw_rules =
     ∷ text_option_or (codes "columns") (codes "1000")
     ∷ text_option_or (codes "square") (codes "16")
     ∷ text_option (codes "height")
-    ∷ tied (flag_option (codes "png"))
     ∷ text_option (codes "out")
     ∷ tied (flag_option (codes "replace"))
     ∷ why_rule

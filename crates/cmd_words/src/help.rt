@@ -240,10 +240,9 @@ steps, for R rows, every E-th time is drawn, where E is one more than the whole 
 its last time. Of W cells, for C columns, each column has W/C of them, rounded up, and the last what is left. With
 --width W the first head is in column W/2, rounded down, from 0 on; with --from a run that halts before begins at its
 last time. --square is reduced until the picture is at most 1,000 pixels wide; --height makes rows as high as it
-allows. With --png the picture has the light colours, without line and legend; it can't be given with --height. A
-record's certificate isn't judged. With --out the folder is made where it isn't there; a picture is made beside its
-place and put there. One that is there already, or a link, stays, and ends the command (`refused 605`), except with
---replace; so does a picture that can't be written.
+allows. A record's certificate isn't judged. With --out the folder is made where it isn't there; a picture is made
+beside its place and put there. One that is there already, or a link, stays, and ends the command (`refused 605`),
+except with --replace; so does a picture that can't be written. `contrib/png` makes a PNG of `bb show --align`.
 
 Exit status: 0 each line was a table or a record, and one at most without --out; 1 a line was refused; 2 a wrong
 command line; 3 out of memory (`refused memory`); 4 a stream failed (`refused 603`), or a picture couldn't be written

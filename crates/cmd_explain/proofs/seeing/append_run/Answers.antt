@@ -1,7 +1,5 @@
-use Rattle.std.proofs.Common.{◌++◌, ◌∷◌, [], refl, subst}
+use Rattle.std.proofs.Common.{◌++◌, ◌∷◌, [], refl}
 use Rattle.machine_text.specs.Text.{text_of}
-use Rattle.cmd_options.specs.declared.options.Showing.{Showing}
-use Rattle.cmd_show.specs.Shown.{IsShownRun}
 use Rattle.cmd_explain.proofs.ListTexts.{joined}
 use Rattle.cmd_explain.proofs.seeing.append_run.Goals as goal
 
@@ -15,7 +13,7 @@ returns c =
         words = seen.0;
         shown = shown.0;
         told = seen.1;
-        run = subst (λ (s : Showing). IsShownRun s c.args.t.now shown.0) c.first_steps.ensures shown.1;
+        run = shown.1;
         is = refl;
       },
       joined _ _ _ (table ++ seen.0 ++ shown.0) _ (joined _ _ _ (table ++ seen.0) _ (joined _ _ _ table _ c.in_ok-append_table.ensures.ok seen.2) shown.2) c.in_ok-push.ensures.items,

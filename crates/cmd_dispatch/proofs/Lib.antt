@@ -1,6 +1,6 @@
+mod Admitting
 mod Calling
 mod Joining
 mod Keeping
 mod Running
 mod Saving
-mod Walking

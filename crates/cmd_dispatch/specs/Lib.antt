@@ -2,6 +2,7 @@ pub mod Ends
 pub mod Kept
 pub mod Lines
 pub mod Ledgers
+pub mod Admitted
 pub mod Trees
 pub mod Pages
 pub mod Serves

@@ -66,8 +66,8 @@ fn walk_found<S: Disk + Clock + ProgressTold, W: Write, E: Write>(
     answers: &mut W,
     faults: &mut E,
 ) -> Result<Outcome, Ended>
-    requires { IsWalking walking.now }
-    requires { IsRootOf walking.now root }
+    requires within { IsWalking walking.now }
+    requires root { IsRootOf walking.now root }
     ensures { Once (WalksBy ⟦<Finders<AnyFinder<'static>> as Decider>⟧.answers walking.now
         (output_of (W.contents answers.old)
         (W.contents answers.new) (E.contents faults.old) (E.contents faults.new)))
@@ -102,8 +102,8 @@ fn walk_saved<S: Disk + Clock + ProgressTold, H: Files, W: Write, E: Write>(
     answers: &mut W,
     faults: &mut E,
 ) -> Result<Outcome, Ended>
-    requires { IsWalking walking.now }
-    requires { IsRootOf walking.now root }
+    requires within { IsWalking walking.now }
+    requires root { IsRootOf walking.now root }
     ensures saves { IsKeptBut (H.tells_same files.old) saving.entry.path.now (H.holds files.old) (H.holds files.new) }
     ensures walks { OnceSaved (WalksBy ⟦<SavingDecider<Finders<AnyFinder<'static>>, H::Ledger> as Decider>⟧.answers
         walking.now (output_of (W.contents answers.old)
@@ -211,8 +211,8 @@ fn walk_by<D: Decider, S: Disk + Clock + ProgressTold, W: Write, E: Write>(
     answers: &mut W,
     faults: &mut E,
 ) -> Result<(Outcome, Late), Ended>
-    requires { IsWalking walking.now }
-    requires { IsRootOf walking.now root }
+    requires within { IsWalking walking.now }
+    requires root { IsRootOf walking.now root }
     ensures walks { IfOk result (λ r. ToldApart (WalksTree (IsText (form_of walking.now.json)) root
         (IsWalkedBoard D D.answers)
         (W.contents answers.old) (W.contents answers.new)) r.0

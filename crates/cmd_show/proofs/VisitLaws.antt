@@ -1,35 +1,19 @@
--- The cells that a run visits, from one time to the next, and where its ones stand.
-use Rattle.std.proofs.Common.{◌≡◌, ℕ, zero, suc, ◌+◌, ◌<◌, ◌≤◌, ◌^◌, ℤ, pos, ◌+ℤ◌, ◌-ℤ◌, ◌≤ℤ◌, Some, ◌⊎◌, inl, inr, sym, ◌∙◌, ap, subst, cond, arith}
-use Rattle.std.specs.Ordering.{int_cmp}
-use Rattle.std.specs.FinSet as set
-use Rattle.std.proofs.lemmas.Bool.{cases_lt}
+-- The cells that a run visits, from one time to the next.
+use Rattle.std.proofs.Common.{◌≡◌, ℕ, ◌+◌, ℤ, ◌≤ℤ◌, Some, ◌⊎◌, inl, inr, sym, subst, arith}
 use Rattle.std.proofs.lemmas.Int.{ints, by_lt_z}
-use Rattle.std.proofs.lemmas.Option.{same_Some}
 use Rattle.machine_text.specs.Packed.{Packed, entry_of}
-use Rattle.machine_text.specs.declared.transition.Sym.TheVariants.{Zero, One}
 use Rattle.machine_text.specs.declared.transition.Dir.{Dir}
 use Rattle.machine_text.specs.declared.transition.Dir.TheVariants.{L, R}
 use Rattle.law_turing.specs.Machine.{Machine}
-use Rattle.law_turing.specs.Run.{Config, start, cell, after}
-use Rattle.law_turing.specs.Tape.{Tape}
-use Rattle.law_turing.specs.Halting.{HaltsAt}
+use Rattle.law_turing.specs.Run.{Config, after}
 use Rattle.law_turing.specs.Translated.{Beyond, Farthest}
-use Rattle.law_turing.proofs.Cells.{by_place}
-use Rattle.law_turing.proofs.Heads.{head_reach, farthest_first, farthest_same, farthest_new}
-use Rattle.law_turing.proofs.RunLaws.{from_zero, next_is, before, not_past}
-use Rattle.law_turing.proofs.Steps.{takes}
+use Rattle.law_turing.proofs.Heads.{farthest_first, farthest_same, farthest_new}
 use Rattle.run.specs.RunState.{RunState, OnRun}
-use Rattle.run.specs.Limits.{run_step_limit}
 use Rattle.run.specs.Steps.{TakesStep, StepsTo, IsBetween, RunsTo}
 use Rattle.run.specs.declared.runner.Step.{Step}
 use Rattle.run.specs.declared.runner.Step.TheVariants.{Went, Halts}
 use Rattle.cmd_show.specs.declared.span.Span.{Span}
-use Rattle.cmd_show.specs.declared.times.Times.{Times}
-use Rattle.cmd_show.specs.declared.view.View.{View}
-use Rattle.cmd_show.specs.Times.{last_time}
-use Rattle.cmd_show.specs.View.{place}
-use Rattle.cmd_show.specs.Visits.{IsVisited, IsPlaced}
-use Rattle.cmd_show.specs.inside.Rows.{HasOnesIn}
+use Rattle.cmd_show.specs.Visits.{IsVisited}
 
 -- of two places one is at or beyond the other
 beyond_or : (side : Dir) (a b : ℤ) → Beyond side a b ⊎ Beyond side b a

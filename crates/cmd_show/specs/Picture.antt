@@ -12,9 +12,16 @@ opening width height = concat (
     codes "<svg xmlns='http://www.w3.org/2000/svg' width='" ∷ decimal width ∷ codes "' height='" ∷ decimal height
     ∷ codes "' viewBox='0 0 " ∷ decimal width ∷ codes " " ∷ decimal height ∷ codes "'>\n<title>" ∷ [])
 
--- from its beginning to its end: what is drawn stands behind the title and the colours
+-- what stands before the rows: the table's text as the title, and the colours
+unfoldable pub heading : Packed → ℕ → ℕ → List ℕ
+heading t width height = concat (opening width height ∷ text_of t ∷ STYLE.now ∷ [])
+
+-- from its beginning to its end
+unfoldable pub document : Packed → ℕ → ℕ → List ℕ → List ℕ
+document t width height drawn = concat (heading t width height ∷ drawn ∷ codes "</svg>\n" ∷ [])
+
 pub record IsPictureOf (t : Packed) (text : List ℕ) : Type 0 where
   pub width : ℕ
   pub height : ℕ
   pub drawn : List ℕ
-  pub is : text ≡ concat (opening width height ∷ text_of t ∷ STYLE.now ∷ drawn ∷ codes "</svg>\n" ∷ [])
+  pub is : text ≡ document t width height drawn

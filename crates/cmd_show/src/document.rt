@@ -1,7 +1,7 @@
 // A picture as an SVG document.
 ghost use Rattle.std.specs.Prelude.{◌≡◌, ◌+◌, ◌*◌, ◌++◌, ◌<◌, ◌≤◌, ◌^◌, IfOk, OnOk};
 ghost use Rattle.machine_text.specs.Limits.{state_limit};
-ghost use Rattle.cmd_show.specs.Picture.{IsPictureOf, opening};
+ghost use Rattle.cmd_show.specs.Picture.{IsPictureOf, document, heading, opening};
 
 use crate::drawn::{Drawn, Head, append_columns};
 use crate::pixels::Pixels;
@@ -12,7 +12,7 @@ use std::io::Write;
 
 // The document of what is drawn of a table, in so many pixels. Its title is the table's text; a line beneath the last row
 // says that the machine halts there, and beneath that stands which colour is which state.
-pub(crate) fn document(
+pub(crate) fn picture(
     alloc: Global,
     t: &Table,
     drawn: &Drawn,
@@ -30,13 +30,35 @@ pub(crate) fn document(
     append_halting(pixels, drawn, &mut body)?;
     append_legend(height + 8, states, &mut body)?;
     let mut text = Vec::new(alloc);
-    append_opening(width, height + 24, &mut text)?;
-    let mut buffer = [0; TEXT_BYTES];
-    text.extend_from_slice(t.text(&mut buffer))?;
-    text.extend_from_slice(STYLE)?;
-    text.extend_from_slice(&body)?;
-    text.extend_from_slice(b"</svg>\n")?;
+    append_document(t, width, height + 24, &body, &mut text)?;
     Ok(text)
+}
+
+// Appends the document of a table that is so wide and so high, around what is drawn.
+#[tactic(auto, unfolding(crate::specs::Picture::document))]
+fn append_document(
+    t: &Table,
+    width: u64,
+    height: u64,
+    drawn: &[u8],
+    out: &mut Vec<u8>,
+) -> Result<(), NoMemory>
+    ensures { OnOk result (out.new.items ≡ out.old.items ++ document t.now width height drawn.now) }
+{
+    append_heading(t, width, height, out)?;
+    out.extend_from_slice(drawn)?;
+    out.extend_from_slice(b"</svg>\n")
+}
+
+// Appends what stands before the rows.
+#[tactic(auto, unfolding(crate::specs::Picture::heading))]
+fn append_heading(t: &Table, width: u64, height: u64, out: &mut Vec<u8>) -> Result<(), NoMemory>
+    ensures { OnOk result (out.new.items ≡ out.old.items ++ heading t.now width height) }
+{
+    let mut buffer = [0; TEXT_BYTES];
+    append_opening(width, height, out)?;
+    out.extend_from_slice(t.text(&mut buffer))?;
+    out.extend_from_slice(STYLE)
 }
 
 // Appends the beginning of a document that is so wide and so high, up to its title.

@@ -3,7 +3,7 @@ ghost use Rattle.std.specs.Prelude.{◌<◌, IfOk};
 ghost use Rattle.cmd_show.specs.Picture.{IsPictureOf};
 ghost use Rattle.cmd_show.specs.Times.{AreWithinRuns};
 
-use crate::document::document;
+use crate::document::picture;
 use crate::drawn::Drawn;
 use crate::pixels::Pixels;
 use crate::placing::placement;
@@ -28,7 +28,7 @@ pub(crate) fn picture_of(
     let rows = Rows::new(alloc, *t, times)?;
     let drawn = Drawn::of(alloc, rows, &view)?;
     let pixels = Pixels::of(drawing, drawn.columns, drawn.rows);
-    document(alloc, t, &drawn, pixels)
+    picture(alloc, t, &drawn, pixels)
 }
 
 // The times that are drawn.

@@ -1,5 +1,5 @@
 // How large a picture is made.
-ghost use Rattle.std.specs.Prelude.{◌≡◌, ◌*◌, ◌<◌, ◌≤◌, max};
+ghost use Rattle.std.specs.Prelude.{◌≡◌, ◌*◌, ◌/◌, ◌≤◌, max, min};
 
 use cmd_options::Drawing;
 
@@ -45,7 +45,7 @@ impl Pixels {
 
 // So many pixels that n of them make no more than a limit, at most so many, and one at least.
 fn pixels_each(most: u64, limit: u64, n: u64) -> u64
-    ensures { n * result ≤ max n limit }
+    ensures { result ≡ max 1 (min most (limit / max n 1)) }
 {
     most.min(limit / n.max(1)).max(1)
 }

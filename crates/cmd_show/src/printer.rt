@@ -4,7 +4,7 @@ ghost use Rattle.cmd_show.specs.inside.Printing.{KeepsLines};
 
 use crate::layout::Layout;
 use crate::line::{append_ending, append_line};
-use crate::rows::Rows;
+use crate::rows::{Ending, Rows};
 use crate::shown::shown_times;
 use crate::sides::Sides;
 use cert::{RecordFault, append_table};
@@ -134,10 +134,29 @@ impl Printer {
             self.end_line(answers)?;
             append_line(layout, row, &rows, &mut sides, &mut self.line)?;
         }
-        if let Some(ending) = rows.ending() {
-            self.end_line(answers)?;
-            append_ending(ending, &mut self.line)?;
+        self.end_run(rows.ending(), answers)
+    }
+
+    // How a run ends, where it does.
+    fn end_run<W: Write>(&mut self, ending: Option<Ending>, answers: &mut W) -> Result<(), Ended>
+        ensures lines { OnOk result (KeepsLines self.old.waits.items (W.contents answers.old)
+            self.new.waits.items (W.contents answers.new)) }
+        ensures err { IfErr result (λ e. (e ≡ Ended.NoMemory) ⊎ (e ≡ Ended.Stream)) }
+    {
+        match ending {
+            Some(ending) => self.show_ending(ending, answers),
+            None => Ok(()),
         }
+    }
+
+    // The line that says so.
+    fn show_ending<W: Write>(&mut self, ending: Ending, answers: &mut W) -> Result<(), Ended>
+        ensures lines { OnOk result (KeepsLines self.old.waits.items (W.contents answers.old)
+            self.new.waits.items (W.contents answers.new)) }
+        ensures err { IfErr result (λ e. (e ≡ Ended.NoMemory) ⊎ (e ≡ Ended.Stream)) }
+    {
+        self.end_line(answers)?;
+        append_ending(ending, &mut self.line)?;
         Ok(())
     }
 

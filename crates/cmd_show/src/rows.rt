@@ -94,7 +94,10 @@ impl Rows {
             time: self.runner.steps(),
             state: self.runner.state(),
         };
-        self.halts = self.table.get(row.state, self.runner.tape().read()).is_none();
+        self.halts = self
+            .table
+            .get(row.state, self.runner.tape().read())
+            .is_none();
         self.number += 1;
         self.due += self.times.every;
         Ok(Some(row))

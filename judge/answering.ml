@@ -8,7 +8,10 @@ let faults = ref 0
 let tell = ref prerr_endline
 let kinds = Array.make 256 0
 
-let say format = Printf.ksprintf (fun text -> incr faults; !tell text) format
+(* names a fault at a line of a text *)
+let say path line what =
+  incr faults;
+  !tell (path ^ ": line " ^ string_of_int line ^ ": refused: " ^ what)
 
 (* the eight tables of the kind P never halt: that is assumed of five states *)
 let assumed n = if n = 5 then eight else []
@@ -59,7 +62,7 @@ let tell_refused ledger tally =
     | Some k when Ledgers.claim_at ledger k <> "U" ->
         let line = Ledgers.line_at ledger k in
         let shown = if String.length line > 100 then String.sub line 0 100 ^ ".." else line in
-        say "%s: line %d: refused: %s" ledger.path (Ledgers.number_of ledger k) shown
+        say ledger.path (Ledgers.number_of ledger k) shown
     | _ -> () in
   List.iter tell_of (List.sort compare tally.refused)
 
@@ -67,7 +70,7 @@ let tell_refused ledger tally =
 let of_root root path first text =
   match Ledgers.of_text path first text with
   | Some ledger when ledger.root = root -> Some ledger
-  | _ -> say "%s: line %d: refused: this isn't the header of a ledger of %s" path first root; None
+  | _ -> say path first ("this isn't the header of a ledger of " ^ root); None
 
 (* one function for each root, while its part is at hand *)
 let current = ref None
@@ -89,7 +92,7 @@ let each_of_stream path next f roots =
     | Some ledger when Hashtbl.mem waiting ledger.root ->
         Hashtbl.replace tallies ledger.root (with_part f (Hashtbl.find waiting ledger.root) (Some ledger));
         Hashtbl.remove waiting ledger.root
-    | _ -> say "%s: line %d: refused: this isn't the header of a part that is open" path first in
+    | _ -> say path first "this isn't the header of a part that is open" in
   let rec all () = match next () with None -> () | Some (first, text) -> take first text; all () in
   all ();
   let tally_of root = match Hashtbl.find_opt tallies (text_of root) with None -> with_part f root None | Some b -> b in
@@ -131,6 +134,6 @@ let report root a =
 (* how many records of each kind were judged, a line each *)
 let counts () =
   let count kind =
-    let many = kinds.(Char.code kind) and trusted = if kind = 'P' then ", taken on trust" else "" in
-    if many > 0 then Printf.sprintf "%c %d%s\n" kind many trusted else "" in
+    let many = kinds.(Char.code kind) and trusted = if kind = 'P' then ", taken on trust\n" else "\n" in
+    if many > 0 then String.make 1 kind ^ " " ^ string_of_int many ^ trusted else "" in
   String.concat "" (List.map count (List.of_seq (String.to_seq "HCTBFANWRPU")))

@@ -14,11 +14,20 @@ open Answering
 
 let usage = "judge N LEDGER|FOLDER|- [PROCESSES], judge part TABLE LEDGER|-, judge check"
 
+let whole_file path =
+  let channel = open_in_bin path in
+  Fun.protect ~finally:(fun () -> close_in channel) (fun () -> really_input_string channel (in_channel_length channel))
+
+let whole_input channel =
+  let text = Buffer.create 65536 in
+  (try while true do Buffer.add_channel text channel 1 done with End_of_file -> ());
+  Buffer.contents text
+
 (* the parts of a folder; a root whose file isn't there is open *)
 let each_of_folder folder f roots =
   let one root =
     let path = Filename.concat folder (text_of root ^ ".ledger") in
-    with_part f root (if Sys.file_exists path then of_root (text_of root) path 1 (Ledgers.whole_file path) else None) in
+    with_part f root (if Sys.file_exists path then of_root (text_of root) path 1 (whole_file path) else None) in
   List.map one roots
 
 (* so many processes share the roots; each writes its tallies into a pipe *)
@@ -59,7 +68,7 @@ let next_ledger channel =
        while !held = None do
          let next = input_line channel ^ "\n" in
          incr line;
-         if Buffer.length text > 0 && String.length next > 11 && Ledgers.header_of next <> None then held := Some next
+         if Buffer.length text > 0 && Ledgers.is_header next then held := Some next
          else Buffer.add_string text next
        done
      with End_of_file -> ());
@@ -84,7 +93,7 @@ let of_states n path processes =
 
 let of_part root path =
   let table = table_of root in
-  let text = if path = "-" then Ledgers.whole_input stdin else Ledgers.whole_file path in
+  let text = if path = "-" then whole_input stdin else whole_file path in
   finish root (tree_below table (of_root root path 1 text))
 
 let check () =

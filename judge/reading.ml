@@ -107,7 +107,7 @@ let hexadecimal c =
 let members text most =
   let long = String.length text in
   let has k = let d = k / 4 in d < long && (hexadecimal text.[long - 1 - d] lsr (k mod 4)) land 1 = 1 in
-  List.filter has (List.init (most + 1) Fun.id)
+  List.filter has (List.init (most + 1) (fun k -> k))
 
 (* F: a set with the halt state is what A doesn't list *)
 let dense side m delta rows keep =

@@ -99,6 +99,9 @@ async function links() {
   await open('#' + encodeURIComponent('1RA--- R - 1^0a1A> 0 l0E.1 1a1 r0B.0.1,1,l0S.1.1.0a1'));
   await until('a linked record', `${shown}.includes('never halts')`);
   await until('a picture of it', drawn);
+  const copy = "[...document.querySelectorAll('button')].find(({textContent}) => /^Cop/.test(textContent))";
+  await evaluate(`${copy}.click()`);
+  await until('that its link is copied', `${copy}.textContent === 'Copied'`);
   await shoot('link');
   await open('#1RB1LB_1LA---');
   await until('a linked table, which is run and judged', `${shown}.includes('halts in 6 steps, with 4 ones')`);

@@ -1,12 +1,14 @@
 #!/usr/bin/env python3
 """Builds docs/judge.html, the judge as a page: judge/web/build.py [FILE]. FILE is where it is put, if not there.
 
-The judge's OCaml is compiled by js_of_ocaml, and put into page.html with the other files that stand here. With --check nothing is
-built: the kept page must be what its sources give, where its judge is the one that it has, and the sum in it that of the judge's
-sources. That sum is the one of `cd judge && LC_ALL=C sha256sum *.v answering.ml extracted/* ledgers.ml reading.ml web/browser.ml
-web/export.js | sha256sum`. With --tools the last line printed is `same` where js_of_ocaml and ocamlc are those by which the kept
-page was made, else `other`, or `none` where they aren't there. It needs ocamlfind and js_of_ocaml (apt install js-of-ocaml
-ocaml-findlib); with the same versions of both it gives the same bytes."""
+The judge's OCaml is compiled by js_of_ocaml, and put into page.html with the other files that stand here. It needs ocamlfind and
+js_of_ocaml (apt install js-of-ocaml ocaml-findlib); the same versions of both give the same bytes. The page has the sum of the
+judge's sources: that of `cd judge && LC_ALL=C sha256sum *.v answering.ml extracted/* ledgers.ml reading.ml web/browser.ml
+web/export.js | sha256sum`.
+
+  --kept    compiles nothing: the judge is taken from the kept page, whose sum has to be that of the sources
+  --check   changes nothing: the kept page must be what --kept would make
+  --tools   prints `same` where ocamlc and js_of_ocaml are those that made the kept page, else `other`, or `none` without them"""
 import glob
 import hashlib
 import os
@@ -73,12 +75,26 @@ def kept():
     return page, judge[1], re.search(r"Made by (.*?)\.</p>", page)[1]
 
 
+def again():
+    """The page with the judge of the kept one."""
+    page, judge, made_by = kept()
+    if f"<code>{source_sum()}</code>" not in page:
+        sys.exit("docs/judge.html isn't of these sources of the judge: make -C judge page")
+    return assembled(judge, made_by)
+
+
+def put(path, page):
+    with open(path, "w", encoding="utf-8") as file:
+        file.write(page)
+
+
 def main():
     words = sys.argv[1:]
-    if words == ["--check"]:
-        page, judge, made_by = kept()
-        if page != assembled(judge, made_by):
-            sys.exit("docs/judge.html isn't made of these sources: make -C judge page")
+    if words == ["--kept"]:
+        put(KEPT, again())
+    elif words == ["--check"]:
+        if kept()[0] != again():
+            sys.exit("docs/judge.html isn't made of judge/web/: judge/web/build.py --kept")
     elif words == ["--tools"]:
         print("none" if not tools() else "same" if tools() == kept()[2] else "other")
     elif len(words) > 1 or words[:1] == ["--help"]:
@@ -86,8 +102,7 @@ def main():
     elif not tools():
         sys.exit("build.py: apt install js-of-ocaml ocaml-findlib")
     else:
-        with open(words[0] if words else KEPT, "w", encoding="utf-8") as file:
-            file.write(assembled(compiled(), tools()))
+        put(words[0] if words else KEPT, assembled(compiled(), tools()))
 
 
 main()

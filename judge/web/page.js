@@ -2,7 +2,7 @@
 
 const KINDS = {
   H: ['halting', 'Its run from the blank tape comes to an undefined entry in so many steps. The last one is counted, and writes a one.'],
-  C: ['cycler', 'Its run comes to one and the same configuration at two times, and so again and again.'],
+  C: ['cycler', 'Its run comes to one and the same configuration at two times, or to the same one further along the tape, and so again and again.'],
   T: ['translated cycler', 'From some time on its run repeats itself, each time moved along the tape by the same number of cells.'],
   B: ['backward reasoning', 'Its run takes so many steps, and no tape at all leads to an undefined entry in exactly so many.'],
   N: ['n-gram CPS', 'Which short words can stand beside the head is listed. No step leaves the lists, and none of them halts.'],
@@ -93,7 +93,7 @@ function transitionsOf(table) {
   return make('table', {className: 'transitions'}, head, ...rows);
 }
 
-function captionOf({width, last, halts, ones, every, share, from, to}) {
+function captionOf({last, halts, ones, every, share, from, to}) {
   const rows = every > 1 ? `a row every ${told(every)}` : 'a row each';
   const cells = share > 1 ? `, ${told(share)} a column` : '';
   const end = halts ? ` It halts with step ${told(last + 1)}, and leaves ${told(ones)} ones.` : '';
@@ -116,7 +116,12 @@ function figureOf(table, steps, seen) {
   const draw = async () => {
     const wanted = Math.max(1, Math.min(MOST_STEPS, Math.floor(Number(field.value)) || FIRST_STEPS));
     caption.textContent = 'Running ..';
-    picture = await ask('picture', {table, steps: wanted});
+    try {
+      picture = await ask('picture', {table, steps: wanted});
+    } catch (fault) {
+      caption.textContent = `It can’t be run so far here: ${fault.message}`;
+      return;
+    }
     caption.textContent = captionOf(picture);
     show();
     seen(picture);
@@ -220,13 +225,13 @@ function listOf(heading, entries) {
   return show;
 }
 
-// Judges lines, so many at once, and shows the first ones as they come.
+// Judges lines, more and more at once, and shows the first ones as they come.
 async function showLines(lines) {
   const entries = [], counts = new Map();
   const show = listOf('Records', entries);
   let passed = 0;
-  for (let k = 0; k < lines.length; k += BATCH) {
-    const some = lines.slice(k, k + BATCH), answers = await ask('lines', {lines: some});
+  for (let from = 0, size = 1; from < lines.length; from += size, size = Math.min(2 * size, BATCH)) {
+    const some = lines.slice(from, from + size), answers = await ask('lines', {lines: some});
     answers.forEach((items, place) => {
       if (items.length === 0 && some[place].trim()) passed++;
       for (const item of items) {
@@ -235,7 +240,7 @@ async function showLines(lines) {
         entries.push(item);
       }
     });
-    if (k === 0 || k + BATCH >= lines.length) await show();
+    if (entries.length <= ROOM || from + size >= lines.length) await show();
   }
   const names = {bare: 'without a certificate'};
   const parts = [...counts].map(([word, count]) => `${names[word] ?? word} ${told(count)}`);
@@ -307,11 +312,16 @@ async function take(text) {
   }
 }
 
-async function takeFile(file) {
-  const first = [...new Uint8Array(await file.slice(0, 2).arrayBuffer())].join();
-  if (first === '253,55' || first === '31,139') return endWork(`${file.name} is compressed: unpack it first (xz -d, gzip -d).`);
+// Takes files: several are the ledgers of a tree in parts, and its trunk comes first.
+async function takeFiles(files) {
+  for (const file of files) {
+    const first = [...new Uint8Array(await file.slice(0, 2).arrayBuffer())].join();
+    if (first === '253,55' || first === '31,139') return endWork(`${file.name} is compressed: unpack it first (xz -d, gzip -d).`);
+  }
   at('text').value = '';
-  take(await file.text());
+  const isTrunk = file => Number(file.name === 'trunk.ledger');
+  const texts = [...files].sort((a, b) => isTrunk(b) - isTrunk(a)).map(file => file.text());
+  take((await Promise.all(texts)).join(''));
 }
 
 // A link's text, with `%` as it is where that isn't an escape.
@@ -338,7 +348,7 @@ at('text').onpaste = event => {
   event.preventDefault();
   take(text);
 };
-at('file').onchange = () => at('file').files[0] && takeFile(at('file').files[0]);
+at('file').onchange = () => takeFiles(at('file').files);
 at('stop').onclick = () => {
   startWorker();
   endWork('Stopped.');
@@ -346,8 +356,8 @@ at('stop').onclick = () => {
 document.ondragover = event => event.preventDefault();
 document.ondrop = event => {
   event.preventDefault();
-  const [file] = event.dataTransfer.files, text = event.dataTransfer.getData('text');
-  if (file) takeFile(file);
+  const {files} = event.dataTransfer, text = event.dataTransfer.getData('text');
+  if (files.length > 0) takeFiles(files);
   else if (text) take(at('text').value = text);
 };
 onhashchange = takeLink;

@@ -6,8 +6,10 @@
 // prints of them. With `all` records of long runs are judged too, which takes minutes, and the whole ledger of four states. Ends
 // with 1 where something isn't so.
 import {execFileSync, spawnSync} from 'node:child_process';
-import {existsSync, readFileSync} from 'node:fs';
+import {existsSync, mkdtempSync, readdirSync, readFileSync, rmSync} from 'node:fs';
 import {createRequire} from 'node:module';
+import {tmpdir} from 'node:os';
+import {join} from 'node:path';
 import vm from 'node:vm';
 
 const [page, bb, all] = process.argv.slice(2);
@@ -108,10 +110,25 @@ function compareAllLines() {
   compareLines('changed records', Array.from({length: 500}, () => changed(both[chance(both.length)])), true);
 }
 
+const reportOf = text => ask('ledger', {text}).replace(/^[A-Z] .*\n/gm, '');
+
 function compareLedger(name, text) {
-  const report = ask('ledger', {text}).replace(/^[A-Z] .*\n/gm, '');
-  if (report !== program(['report', '-'], text)) fail(`the report of ${name}`);
+  if (reportOf(text) !== program(['report', '-'], text)) fail(`the report of ${name}`);
   done.push(`the ledger of ${name}`);
+}
+
+// The ledgers of a tree in parts, one behind the other; and a ledger with a wrong record.
+function compareParts() {
+  const folder = mkdtempSync(join(tmpdir(), 'judge-parts-')), path = name => join(folder, name);
+  program(['split', '2', folder, '--filled', '1']);
+  const parts = readdirSync(folder).filter(name => name !== 'trunk.ledger');
+  for (const name of parts) program(['settle', path(name)]);
+  const text = ['trunk.ledger', ...parts].map(name => readFileSync(path(name), 'latin1')).join('');
+  if (reportOf(text) !== program(['join', folder])) fail('the report of a tree in parts');
+  rmSync(folder, {recursive: true});
+  const lines = text.split('\n').with(-2, '1RB1LB_1LA--- H 3 2');
+  if (!/^ledger: line \d+: refused: 1RB1LB_1LA--- H 3 2\n/.test(ask('ledger', {text: lines.join('\n')}))) fail('a wrong record isn\'t named');
+  done.push(`a tree in ${parts.length + 1} parts`);
 }
 
 function tableByChance() {
@@ -166,6 +183,7 @@ function compareRuns(tables, steps) {
 
 compareAllLines();
 for (const name of ['one-state', 'two-states', 'three-states']) compareLedger(name.replace('-', ' '), readFileSync(EXAMPLES + name + '.ledger', 'latin1'));
+compareParts();
 if (all) compareLedger('four states', unpacked('four-states.ledger.xz'));
 compareRuns(Array.from({length: 970}, tableByChance), 150);
 compareRuns(['1RA---', '1RB1LC_1RC1RB_1RD0LE_1LA1LD_---0LA', ...Array.from({length: 28}, tableByChance)], 5000);

@@ -1,6 +1,6 @@
-// Plays the judge's page in a browser without a screen: judge/web/browse.mjs PAGE [FOLDER]. It pastes a record, follows links, drops
+// Plays the judge's page in a browser without a screen: judge/web/browse.mjs PAGE [FOLDER [PART ..]]. It pastes a record, follows links, drops
 // the ledger of four states, looks at it dark, and 390 pixels wide, and goes through it by the keyboard alone; into FOLDER it puts
-// pictures of what was seen. It needs chromium and xz. Ends with 1 where the page shows something else, or asks for anything from
+// pictures of what was seen. PARTs are names of the functions below, if not all. It needs chromium and xz. Ends with 1 where the page shows something else, or asks for anything from
 // elsewhere.
 import {execFileSync, spawn} from 'node:child_process';
 import {mkdtempSync, rmSync, writeFileSync} from 'node:fs';
@@ -8,7 +8,7 @@ import {tmpdir} from 'node:os';
 import {join, resolve} from 'node:path';
 import {pathToFileURL} from 'node:url';
 
-const [page, shots] = process.argv.slice(2), address = pathToFileURL(resolve(page)).href;
+const [page, shots, ...wanted] = process.argv.slice(2), address = pathToFileURL(resolve(page)).href;
 const EXAMPLES = new URL('../../examples/', import.meta.url).pathname;
 const folder = mkdtempSync(join(tmpdir(), 'judge-page-'));
 let faults = 0;
@@ -117,7 +117,7 @@ async function drops() {
   const data = {items: [], files: [path], dragOperationsMask: 1};
   for (const type of ['dragEnter', 'dragOver', 'drop']) await send('Input.dispatchDragEvent', {type, x: 200, y: 200, data});
   await until('the page is alive while a ledger is judged', "document.getElementById('said').textContent.startsWith('Judging')");
-  await until('the ledger of four states', `${shown}.includes('So S(4) = 107 and Σ(4) = 13')`, 400);
+  await until('the ledger of four states', `${shown}.includes('So S(4) = 107 and Σ(4) = 13')`, 1200);
   await until('its records', `${shown}.includes('858,909')`);
   await shoot('ledger');
 }
@@ -159,7 +159,9 @@ async function main() {
   ({sessionId} = await send('Target.attachToTarget', {targetId, flatten: true}));
   for (const domain of ['Page', 'Runtime', 'Network']) await send(`${domain}.enable`);
   await send('Emulation.setDeviceMetricsOverride', {width: 1100, height: 1200, deviceScaleFactor: 1, mobile: false});
-  for (const part of [pastes, links, byKeyboard, drops, otherwise]) await part();
+  for (const part of [pastes, links, byKeyboard, drops, otherwise]) {
+    if (wanted.length === 0 || wanted.includes(part.name)) await part();
+  }
   const others = asked.filter(url => !/^(about|blob|data):/.test(url) && url.split('#')[0] !== address);
   expect(others.length === 0, 'nothing is asked from elsewhere' + others.map(url => ' ' + url).join(''));
 }

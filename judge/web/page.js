@@ -13,10 +13,11 @@ const KINDS = {
   P: ['a proof of its own', 'One of eight tables of five states with proofs of their own, which this judge takes on trust.'],
   U: ['nothing claimed', 'The record claims nothing.'],
 };
-const FIRST_STEPS = 1000, MOST_STEPS = 50000000, ZOOMS = [1, 2, 3, 4, 6, 8, 12, 16], BATCH = 200, ROOM = 50;
+const FIRST_STEPS = 1000, MOST_STEPS = 50000000, MOST_COLUMNS = 1200, ZOOMS = [1, 2, 3, 4, 6, 8, 12, 16], BATCH = 200, ROOM = 50;
 
 const at = id => document.getElementById(id);
 const told = number => Number(number).toLocaleString('en');
+const counted = (number, word) => `${told(number)} ${word}` + (Number(number) === 1 ? '' : 's');
 
 function make(tag, properties, ...children) {
   const made = Object.assign(document.createElement(tag), properties);
@@ -74,7 +75,7 @@ setInterval(() => {
 // What an answer of the judge says: a verdict for short, and in a sentence.
 function verdictOf(answer) {
   const [, steps, , ones] = answer.match(/ halts (\d+)( ones (\d+))?$/) ?? [];
-  if (steps) return {word: 'halts', steps, text: `halts in ${told(steps)} steps` + (ones ? `, with ${told(ones)} ones` : '')};
+  if (steps) return {word: 'halts', steps, text: `halts in ${counted(steps, 'step')}` + (ones ? `, with ${counted(ones, 'one')}` : '')};
   if (answer.startsWith('refused ')) return {word: 'refused', text: `refused: ${answer.slice(8)}`};
   const word = answer.slice(answer.indexOf(' ') + 1);
   return {word: word.split(',')[0], text: {never: 'never halts', bare: 'without a certificate'}[word] ?? word};
@@ -96,7 +97,7 @@ function transitionsOf(table) {
 function captionOf({last, halts, ones, every, share, from, to}) {
   const rows = every > 1 ? `a row every ${told(every)}` : 'a row each';
   const cells = share > 1 ? `, ${told(share)} a column` : '';
-  const end = halts ? ` It halts with step ${told(last + 1)}, and leaves ${told(ones)} ones.` : '';
+  const end = halts ? ` It halts with step ${told(last + 1)}, and leaves ${counted(ones, 'one')}.` : '';
   return `Steps 0 to ${told(last)}, ${rows}; cells ${told(from)} to ${told(to)}${cells}.${end}`;
 }
 
@@ -110,14 +111,14 @@ function figureOf(table, steps, seen) {
   canvas.setAttribute('role', 'img');
   canvas.setAttribute('aria-label', 'the run of ' + table);
   const show = () => {
-    const fit = Math.max(1, Math.min(8, Math.floor(frame.clientWidth / picture.width)));
-    paint(canvas, picture, Number(zooms.value || fit), getComputedStyle(canvas).color);
+    const fit = Math.min(8, Math.floor(frame.clientWidth / picture.width));
+    paint(canvas, picture, Number(zooms.value || fit || 1), getComputedStyle(canvas).color);
   };
   const draw = async () => {
     const wanted = Math.max(1, Math.min(MOST_STEPS, Math.floor(Number(field.value)) || FIRST_STEPS));
     caption.textContent = 'Running ..';
     try {
-      picture = await ask('picture', {table, steps: wanted});
+      picture = await ask('picture', {table, steps: wanted, columns: (!zooms.value && frame.clientWidth) || MOST_COLUMNS});
     } catch (fault) {
       caption.textContent = `It can’t be run so far here: ${fault.message}`;
       return;
@@ -127,7 +128,7 @@ function figureOf(table, steps, seen) {
     seen(picture);
   };
   field.onchange = draw;
-  zooms.onchange = () => picture && show();
+  zooms.onchange = draw;
   matchMedia('(prefers-color-scheme: dark)').addEventListener('change', () => picture && show());
   queueMicrotask(draw);
   const tools = make('div', {className: 'tools'}, make('label', {}, 'Steps ', field), make('label', {}, 'Zoom ', zooms));
@@ -158,15 +159,13 @@ function fillItem(entry, box) {
   const [, sentence] = KINDS[record.split(' ')[1]] ?? [];
   const claim = record.slice(record.indexOf(' ') + 1);
   if (sentence && word !== 'refused') box.append(make('p', {}, sentence));
-  if (sentence) {
-    box.append(make('details', {className: 'claim'}, make('summary', {}, 'Certificate'), make('pre', {tabIndex: 0}, claim)));
-  }
+  if (sentence) box.append(make('details', {}, make('summary', {}, 'Certificate'), make('pre', {tabIndex: 0}, claim)));
+  box.append(make('div', {className: 'tools'}, linkOf(record)));
   if (table) {
     const seen = ({halts, last, ones}) => halts && word === 'bare' && become(entry, `${table} H ${last + 1} ${ones}`);
     const figure = figureOf(table, Math.min(Number(steps ?? FIRST_STEPS), MOST_STEPS), seen);
     box.append(make('div', {className: 'drawn'}, transitionsOf(table), figure));
   }
-  box.append(make('div', {className: 'tools'}, linkOf(record)));
 }
 
 // A table that was seen to halt becomes a record, which is judged.
@@ -177,6 +176,7 @@ async function become(entry, record) {
   const after = elementOf(entry);
   after.open = before.open;
   before.replaceWith(after);
+  if (document.querySelectorAll('.item').length === 1) say(verdictOf(answer).text);
 }
 
 // A record in a list: its table and verdict, and on demand all else.
@@ -245,8 +245,9 @@ async function showLines(lines) {
   const names = {bare: 'without a certificate'};
   const parts = [...counts].map(([word, count]) => `${names[word] ?? word} ${told(count)}`);
   if (passed > 0) parts.push(`lines without a table ${told(passed)}`);
-  if (entries.length === 1) elementOf(entries[0]).open = true;
-  endWork(parts.join(', ') || 'There is no table in it.');
+  if (entries.length !== 1) return endWork(parts.join(', ') || 'There is no table in it.');
+  elementOf(entries[0]).open = true;
+  endWork(verdictOf(entries[0].answer).text);
 }
 
 // What a report says of a whole tree, in a sentence.
@@ -260,9 +261,11 @@ function sentenceOf(report, kinds) {
     : `So S(${states}) = ${told(best)} and Σ(${states}) = ${told(ones)}, among all machines of ${states} states${trust}.`;
 }
 
+const ROWS = {nodes: 'Tables', halting: 'Halting', never: 'Never halting', holdouts: 'Holdouts', open: 'Open', best: 'Most steps', ones: 'Most ones'};
+
 function statusOf(report, kinds) {
-  const rows = ['nodes', 'halting', 'never', 'holdouts', 'open', 'best', 'ones'].map(word =>
-    make('tr', {}, make('th', {scope: 'row'}, word), make('td', {}, report[word] === 'none' ? 'none' : told(report[word]))));
+  const rows = Object.entries(ROWS).map(([word, name]) =>
+    make('tr', {}, make('th', {scope: 'row'}, name), make('td', {}, report[word] === 'none' ? 'none' : told(report[word]))));
   const judged = kinds.map(line => {
     const [letter, count, ...rest] = line.split(/[ ,]+/);
     return make('tr', {}, make('th', {scope: 'row'}, `${letter}, ${KINDS[letter][0]}`), make('td', {}, [told(count), ...rest].join(' ')));

@@ -22,7 +22,7 @@ function itemsOf(line) {
 const asked = {
   lines: ({lines}) => lines.map(itemsOf),
   ledger: ({text}) => judge.ledger(bytes(text)),
-  picture: ({table, steps}) => pictureOf(table, steps),
+  picture: ({table, steps, columns}) => pictureOf(table, steps, 2000, columns),
 };
 
 onmessage = ({data}) => {

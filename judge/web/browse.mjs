@@ -1,7 +1,7 @@
-// Plays the judge's page in a browser without a screen: judge/web/browse.mjs PAGE [FOLDER [PART ..]]. It pastes a record, follows links, drops
-// the ledger of four states, looks at it dark, and 390 pixels wide, and goes through it by the keyboard alone; into FOLDER it puts
-// pictures of what was seen. PARTs are names of the functions below, if not all. It needs chromium and xz. Ends with 1 where the page shows something else, or asks for anything from
-// elsewhere.
+// Plays the judge's page in a browser without a screen: judge/web/browse.mjs PAGE [FOLDER [PART ..]]. It pastes a record, follows
+// links, goes through the page by the keyboard alone, drops the ledger of four states, and looks at the page dark and 390 pixels
+// wide; into FOLDER it puts pictures of what was seen. PARTs are names of the functions below, if not all. It needs chromium and xz.
+// Ends with 1 where the page shows something else, or asks for anything from elsewhere.
 import {execFileSync, spawn} from 'node:child_process';
 import {mkdtempSync, rmSync, writeFileSync} from 'node:fs';
 import {tmpdir} from 'node:os';
@@ -14,8 +14,8 @@ const folder = mkdtempSync(join(tmpdir(), 'judge-page-'));
 let faults = 0;
 
 // The browser, by its protocol over two pipes.
-const flags = ['--headless=new', '--no-sandbox', '--disable-gpu', '--remote-debugging-pipe', `--user-data-dir=${folder}/profile`, 'about:blank'];
-const browser = spawn('chromium', flags, {stdio: ['ignore', 'ignore', 'ignore', 'pipe', 'pipe']});
+const flags = ['--headless=new', '--no-sandbox', '--disable-gpu', '--remote-debugging-pipe', `--user-data-dir=${folder}/profile`];
+const browser = spawn('chromium', [...flags, 'about:blank'], {stdio: ['ignore', 'ignore', 'ignore', 'pipe', 'pipe']});
 const waiting = new Map(), asked = [];
 let last = 0, rest = '';
 
@@ -24,7 +24,7 @@ browser.stdio[4].on('data', data => {
   rest = frames.pop();
   for (const frame of frames.map(text => JSON.parse(text))) {
     if (frame.method === 'Network.requestWillBeSent') asked.push(frame.params.request.url);
-    if (frame.method === 'Runtime.exceptionThrown') expect(false, frame.params.exceptionDetails.exception?.description ?? 'a fault');
+    if (frame.method === 'Runtime.exceptionThrown') expect(false, `a fault: ${JSON.stringify(frame.params.exceptionDetails)}`);
     waiting.get(frame.id)?.(frame);
     waiting.delete(frame.id);
   }
@@ -68,7 +68,8 @@ async function shoot(name) {
 async function open(hash = '') {
   await send('Page.navigate', {url: 'about:blank'});
   await send('Page.navigate', {url: address + hash});
-  await until('the page opens' + (hash && ' by a link'), "document.readyState === 'complete' && Boolean(document.getElementById('text'))");
+  const isOpen = "document.readyState === 'complete' && Boolean(document.getElementById('text'))";
+  await until('the page opens' + (hash && ' by a link'), isOpen);
 }
 
 async function press(key, number) {
@@ -89,9 +90,11 @@ async function pastes() {
   await until('its run', `[...document.querySelectorAll('canvas')].some(canvas => canvas.height === 107)`);
   await shoot('paste');
   await evaluate("document.getElementById('text').select()");
-  await send('Input.insertText', {text: `${CHAMPION} H 108\nnothing here\nhttps://bbchallenge.org/1RA--- and 1RB1LB_1LA1RZ\n1RA--- T 0 1 R\n1RA--- T 0 99999999999 R`});
-  await until('a list', `${shown}.includes('doesn’t hold') || ${shown}.includes("doesn't hold")`);
-  await until('its counts', "document.getElementById('said').textContent === 'refused 2, without a certificate 2, never 1, lines without a table 1'");
+  const links = 'https://bbchallenge.org/1RA--- and 1RB1LB_1LA1RZ', translated = '1RA--- T 0 1 R\n1RA--- T 0 99999999999 R';
+  await send('Input.insertText', {text: `${CHAMPION} H 108\nnothing here\n${links}\n${translated}`});
+  await until('a list', `${shown}.includes("doesn't hold")`);
+  const counts = 'refused 2, without a certificate 2, never 1, lines without a table 1';
+  await until('its counts', `document.getElementById('said').textContent === '${counts}'`);
   await shoot('list');
 }
 

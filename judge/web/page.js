@@ -1,15 +1,16 @@
 // The page: what is pasted, typed, dropped or linked is judged by a worker, and shown.
 
+// Each kind's name, and what a record of it has shown.
 const KINDS = {
-  H: ['halting', 'Its run from the blank tape comes to an undefined entry in so many steps. The last one is counted, and writes a one.'],
-  C: ['cycler', 'Its run comes to one and the same configuration at two times, or to the same one further along the tape, and so again and again.'],
+  H: ['halting', 'Its run from the blank tape comes to an undefined entry. The last step is counted, and writes a one.'],
+  C: ['cycler', 'Its run comes to one configuration at two times, or to the same further along the tape, and so again and again.'],
   T: ['translated cycler', 'From some time on its run repeats itself, each time moved along the tape by the same number of cells.'],
   B: ['backward reasoning', 'Its run takes so many steps, and no tape at all leads to an undefined entry in exactly so many.'],
-  N: ['n-gram CPS', 'Which short words can stand beside the head is listed. No step leaves the lists, and none of them halts.'],
-  F: ['finite automata reduction', 'An automaton accepts each configuration that comes to a halt, and it doesn’t accept the blank tape.'],
-  A: ['finite automata reduction', 'An automaton, whose edges are listed, accepts each configuration that comes to a halt, but not the blank tape.'],
+  N: ['n-gram CPS', 'The short words that can stand beside the head are listed. No step leaves the lists, and none of them halts.'],
+  F: ['finite automata reduction', 'An automaton accepts each configuration that comes to a halt, and not the blank tape.'],
+  A: ['finite automata reduction', 'An automaton, its edges listed, accepts each configuration that comes to a halt, and not the blank tape.'],
   W: ['automata that count', 'Two automata read the half tapes and count. What they read and count is never that of a halt.'],
-  R: ['rules with induction', 'By rules between forms of tape, each proved by steps or by induction, its run comes to a family of forms again and again.'],
+  R: ['rules with induction', 'By rules between forms of tape, proved by steps or by induction, its run comes to a family of forms again and again.'],
   P: ['a proof of its own', 'One of eight tables of five states with proofs of their own, which this judge takes on trust.'],
   U: ['nothing claimed', 'The record claims nothing.'],
 };
@@ -261,14 +262,16 @@ function sentenceOf(report, kinds) {
     : `So S(${states}) = ${told(best)} and Σ(${states}) = ${told(ones)}, among all machines of ${states} states${trust}.`;
 }
 
-const ROWS = {nodes: 'Tables', halting: 'Halting', never: 'Never halting', holdouts: 'Holdouts', open: 'Open', best: 'Most steps', ones: 'Most ones'};
+const ROWS = {
+  nodes: 'Tables', halting: 'Halting', never: 'Never halting', holdouts: 'Holdouts', open: 'Open', best: 'Most steps', ones: 'Most ones',
+};
 
 function statusOf(report, kinds) {
   const rows = Object.entries(ROWS).map(([word, name]) =>
     make('tr', {}, make('th', {scope: 'row'}, name), make('td', {}, report[word] === 'none' ? 'none' : told(report[word]))));
   const judged = kinds.map(line => {
-    const [letter, count, ...rest] = line.split(/[ ,]+/);
-    return make('tr', {}, make('th', {scope: 'row'}, `${letter}, ${KINDS[letter][0]}`), make('td', {}, [told(count), ...rest].join(' ')));
+    const [letter, count, ...rest] = line.split(/[ ,]+/), name = `${letter}, ${KINDS[letter][0]}`;
+    return make('tr', {}, make('th', {scope: 'row'}, name), make('td', {}, [told(count), ...rest].join(' ')));
   });
   return make('section', {}, make('h2', {}, `Tree of ${report.root}: ${report.status}`), make('p', {}, sentenceOf(report, kinds)),
     make('div', {className: 'drawn'}, make('table', {}, ...rows), make('table', {}, ...judged)));
@@ -278,7 +281,8 @@ function statusOf(report, kinds) {
 async function showLedger(text) {
   const answer = await ask('ledger', {text});
   if (answer.startsWith('refused ')) return endWork(answer);
-  const lines = answer.split('\n'), begins = lines.findIndex(line => line.startsWith('root ')), faults = lines.slice(0, begins);
+  const lines = answer.split('\n'), begins = lines.findIndex(line => line.startsWith('root '));
+  const faults = lines.slice(0, begins);
   const kinds = lines.filter(line => /^[A-Z] \d/.test(line));
   const pairs = lines.slice(begins).filter(line => /^[a-z_]+ /.test(line)).map(line => line.split(' '));
   const tablesOf = word => pairs.filter(([name]) => name === word).map(([, table]) => table);

@@ -25,7 +25,8 @@ function fail(what) {
 }
 
 // The worker of the page: its scripts, as they stand there, and what it answers.
-const scripts = ['judge', 'picture', 'work'].map(id => readFileSync(page, 'utf8').match(new RegExp(`<script[^>]* id='${id}'>\n([^]*?)</script>`))[1]);
+const scriptOf = id => readFileSync(page, 'utf8').match(new RegExp(`<script[^>]* id='${id}'>\n([^]*?)</script>`))[1];
+const scripts = ['judge', 'picture', 'work'].map(scriptOf);
 globalThis.require = createRequire(import.meta.url);
 vm.runInThisContext(scripts.join('\n'));
 const {drawRun: draw, STATE_COLOURS: colours} = vm.runInThisContext('({drawRun, STATE_COLOURS})');
@@ -77,12 +78,12 @@ function answersOf(lines) {
 // A line that bb refuses may be one that the page doesn't take for a record: then it shows the tables in it, or nothing. Of changed
 // records the judge accepts a little more than bb (judge/README.md); the page no more than the judge as a program, where that is built.
 function compareLines(name, lines, isChanged = false) {
-  const refused = /^refused .*/, due = program(['check'], lines.join('\n') + '\n').split('\n').map(answer => answer.replace(refused, 'refused'));
+  const answers = program(['check'], lines.join('\n') + '\n').split('\n');
+  const due = answers.map(answer => answer.replace(/^refused .*/, 'refused'));
   const ours = answersOf(lines), differ = [...lines.keys()].filter(k => ours[k] !== due[k]);
   const more = differ.filter(k => due[k] === 'refused' && !/^none$| bare$/.test(ours[k]));
-  for (const k of isChanged ? differ.filter(k => due[k] !== 'refused') : [...differ.filter(k => due[k] !== 'refused'), ...more]) {
-    fail(`${lines[k]}: ${ours[k]}, not ${due[k]}`);
-  }
+  const fewer = differ.filter(k => due[k] !== 'refused');
+  for (const k of isChanged ? fewer : [...fewer, ...more]) fail(`${lines[k]}: ${ours[k]}, not ${due[k]}`);
   done.push(`${lines.length} ${name}` + (more.length > 0 ? ` (${more.length} are accepted by the judge alone)` : ''));
   if (more.length === 0 || !existsSync(JUDGE)) return;
   const judged = spawnSync(JUDGE, ['check'], {...MOST, input: more.map(k => lines[k] + '\n').join('')}).stdout;
@@ -140,7 +141,10 @@ function tableByChance() {
 // The colour of a pixel as one number, and what each of them shows: a blank, some or most ones, or a state.
 const number = bytes => new Uint32Array(Uint8Array.from(bytes).buffer)[0];
 const names = new Map([[number([0, 0, 0, 0]), '.'], [number([1, 2, 3, 90]), '+'], [number([1, 2, 3, 255]), '1']]);
-colours.forEach((colour, state) => names.set(number([1, 3, 5].map(k => parseInt(colour.slice(k, k + 2), 16)).concat(255)), 'ABCDEFG'[state]));
+colours.forEach((colour, state) => {
+  const parts = [1, 3, 5].map(k => parseInt(colour.slice(k, k + 2), 16));
+  names.set(number([...parts, 255]), 'ABCDEFG'[state]);
+});
 
 // What is painted of a run, row by row.
 function painted(table, steps) {
@@ -149,8 +153,9 @@ function painted(table, steps) {
   const putImageData = ({data}) => {
     pixels = new Uint32Array(data.buffer);
   };
-  const canvas = {style: {}, getContext: () => ({createImageData, putImageData})}, picture = draw(canvas, table, steps, 1), rows = [];
-  for (let k = 0; k < pixels.length; k += canvas.width) rows.push(Array.from(pixels.subarray(k, k + canvas.width), pixel => names.get(pixel)).join(''));
+  const canvas = {style: {}, getContext: () => ({createImageData, putImageData})}, picture = draw(canvas, table, steps, 1);
+  const shown = Array.from(pixels, pixel => names.get(pixel)).join(''), {width} = canvas;
+  const rows = Array.from({length: canvas.height}, (_, row) => shown.slice(row * width, (row + 1) * width));
   return {...picture, rows};
 }
 
@@ -175,14 +180,17 @@ function compareRuns(tables, steps) {
       const lines = linesOf(shown[k]), end = lines.at(-1).match(/^halts (\d+) ones (\d+)$/);
       const rows = lines.slice(1, end ? -1 : undefined).map(line => rowOf(line, run));
       if (lines[0] !== run.table || rows.join('\n') !== run.rows.join('\n')) fail(`the picture of ${run.table}`);
-      if (run.halts !== Boolean(end) || (end && (Number(end[1]) !== run.last + 1 || Number(end[2]) !== run.ones))) fail(`the end of ${run.table}`);
+      const ends = run.halts ? `halts ${run.last + 1} ones ${run.ones}` : undefined;
+      if (end?.[0] !== ends) fail(`the end of ${run.table}`);
     });
   }
   done.push(`the pictures of ${tables.length} tables up to step ${steps}`);
 }
 
 compareAllLines();
-for (const name of ['one-state', 'two-states', 'three-states']) compareLedger(name.replace('-', ' '), readFileSync(EXAMPLES + name + '.ledger', 'latin1'));
+for (const name of ['one-state', 'two-states', 'three-states']) {
+  compareLedger(name.replace('-', ' '), readFileSync(EXAMPLES + name + '.ledger', 'latin1'));
+}
 compareParts();
 if (all) compareLedger('four states', unpacked('four-states.ledger.xz'));
 compareRuns(Array.from({length: 970}, tableByChance), 150);

@@ -118,11 +118,20 @@ async function drops() {
   writeFileSync(path, execFileSync('xz', ['-dc', EXAMPLES + 'four-states.ledger.xz'], {maxBuffer: 2 ** 30}));
   await open();
   const data = {items: [], files: [path], dragOperationsMask: 1};
-  for (const type of ['dragEnter', 'dragOver', 'drop']) await send('Input.dispatchDragEvent', {type, x: 200, y: 200, data});
+  const drop = async () => {
+    for (const type of ['dragEnter', 'dragOver', 'drop']) await send('Input.dispatchDragEvent', {type, x: 200, y: 200, data});
+  };
+  await drop();
   await until('the page is alive while a ledger is judged', "document.getElementById('said').textContent.startsWith('Judging')");
+  await evaluate("document.getElementById('stop').click()");
+  await until('it is stopped', "document.getElementById('said').textContent === 'Stopped.' && document.getElementById('stop').hidden");
+  await drop();
   await until('the ledger of four states', `${shown}.includes('So S(4) = 107 and Σ(4) = 13')`, 1200);
-  await until('its records', `${shown}.includes('858,909')`);
+  await until('its records', `${shown}.includes('858,909 of 858,909')`);
   await shoot('ledger');
+  await evaluate("document.querySelector('input[type=search]').focus()");
+  await send('Input.insertText', {text: '0RA1LD f r'});
+  await until('a search in them', `!${shown}.includes('858,909 of 858,909') && ${shown}.includes(' of 858,909')`);
 }
 
 async function byKeyboard() {

@@ -327,8 +327,13 @@ async function takeFiles(files) {
   }
   at('text').value = '';
   const isTrunk = file => Number(file.name === 'trunk.ledger');
-  const texts = [...files].sort((a, b) => isTrunk(b) - isTrunk(a)).map(file => file.text());
-  take((await Promise.all(texts)).join(''));
+  const sorted = [...files].sort((a, b) => isTrunk(b) - isTrunk(a));
+  try {
+    const texts = await Promise.all(sorted.map(file => file.text()));
+    take(texts.join(''));
+  } catch (fault) {
+    endWork(`It can’t be read here: ${fault.message}`);
+  }
 }
 
 // A link's text, with `%` as it is where that isn't an escape.

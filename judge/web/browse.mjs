@@ -117,15 +117,17 @@ async function drops() {
   const path = join(folder, 'four-states.ledger');
   writeFileSync(path, execFileSync('xz', ['-dc', EXAMPLES + 'four-states.ledger.xz'], {maxBuffer: 2 ** 30}));
   await open();
-  const data = {items: [], files: [path], dragOperationsMask: 1};
-  const drop = async () => {
+  const drop = async (...files) => {
+    const data = {items: [], files, dragOperationsMask: 1};
     for (const type of ['dragEnter', 'dragOver', 'drop']) await send('Input.dispatchDragEvent', {type, x: 200, y: 200, data});
   };
-  await drop();
+  await drop(EXAMPLES + 'four-states.ledger.xz');
+  await until('that a file is compressed', "document.getElementById('said').textContent.includes('is compressed')");
+  await drop(path);
   await until('the page is alive while a ledger is judged', "document.getElementById('said').textContent.startsWith('Judging')");
   await evaluate("document.getElementById('stop').click()");
   await until('it is stopped', "document.getElementById('said').textContent === 'Stopped.' && document.getElementById('stop').hidden");
-  await drop();
+  await drop(path);
   await until('the ledger of four states', `${shown}.includes('So S(4) = 107 and Σ(4) = 13')`, 1200);
   await until('its records', `${shown}.includes('858,909 of 858,909')`);
   await shoot('ledger');

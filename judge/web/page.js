@@ -319,20 +319,24 @@ async function take(text) {
   }
 }
 
-// Takes files: several are the ledgers of a tree in parts, and its trunk comes first.
-async function takeFiles(files) {
-  for (const file of files) {
+// The text of files: several are the ledgers of a tree in parts, and its trunk comes first.
+async function textOf(files) {
+  const isTrunk = file => Number(file.name === 'trunk.ledger'), texts = [];
+  for (const file of [...files].sort((a, b) => isTrunk(b) - isTrunk(a))) {
     const first = [...new Uint8Array(await file.slice(0, 2).arrayBuffer())].join();
-    if (first === '253,55' || first === '31,139') return endWork(`${file.name} is compressed: unpack it first (xz -d, gzip -d).`);
+    if (first === '253,55' || first === '31,139') throw new Error(`${file.name} is compressed (xz -d, gzip -d)`);
+    texts.push(await file.text());
   }
+  return texts.join('');
+}
+
+async function takeFiles(files) {
   at('text').value = '';
-  const isTrunk = file => Number(file.name === 'trunk.ledger');
-  const sorted = [...files].sort((a, b) => isTrunk(b) - isTrunk(a));
   try {
-    const texts = await Promise.all(sorted.map(file => file.text()));
-    take(texts.join(''));
+    take(await textOf(files));
   } catch (fault) {
-    endWork(`It can’t be read here: ${fault.message}`);
+    at('results').replaceChildren();
+    endWork(`It can’t be read: ${fault.message}`);
   }
 }
 

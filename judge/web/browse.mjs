@@ -131,7 +131,7 @@ async function drops() {
   await until('the ledger of four states', `${shown}.includes('So S(4) = 107 and Σ(4) = 13')`, 1200);
   await until('its records', `${shown}.includes('858,909 of 858,909')`);
   await shoot('ledger');
-  await evaluate("document.querySelector('input[type=search]').focus()");
+  await evaluate("[...document.querySelectorAll('input[type=search]')].at(-1).focus()");
   await send('Input.insertText', {text: '0RA1LD f r'});
   await until('a search in them', `!${shown}.includes('858,909 of 858,909') && ${shown}.includes(' of 858,909')`);
 }

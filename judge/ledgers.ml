@@ -64,6 +64,25 @@ let header_of line =
     | "bb-ledger 1 " | "bb-ledger 2 " -> Some (line.[10], rest_of line 12)
     | _ -> None
 
+let is_header line = String.length line > 11 && header_of line <> None
+
+(* gives the ledgers of a text, one behind the other: the number of the first line, and the text *)
+let next_of_text text =
+  let from = ref 0 and line = ref 1 in
+  let rec past k =
+    incr line;
+    let next = line_end text k + 1 in
+    if next >= String.length text then String.length text
+    else if text.[next] = 'b' && is_header (String.sub text next (line_end text next - next)) then next
+    else past next in
+  fun () ->
+    if !from >= String.length text then None
+    else begin
+      let begun = !from and first = !line in
+      from := past begun;
+      Some (first, String.sub text begun (!from - begun))
+    end
+
 (* the ledger of a text whose first line has the number `first`; none where that isn't a header *)
 let of_text path first text =
   let until = line_end text 0 in
@@ -93,12 +112,3 @@ let number_of ledger k =
   let count = ref ledger.first in
   for i = 0 to k - 1 do if ledger.text.[i] = '\n' then incr count done;
   !count
-
-let whole_file path =
-  let channel = open_in_bin path in
-  Fun.protect ~finally:(fun () -> close_in channel) (fun () -> really_input_string channel (in_channel_length channel))
-
-let whole_input channel =
-  let text = Buffer.create 65536 in
-  (try while true do Buffer.add_channel text channel 1 done with End_of_file -> ());
-  Buffer.contents text

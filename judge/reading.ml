@@ -2,33 +2,50 @@
    nothing has to be: whatever a certificate is read as, the judge answers truly of its table. *)
 open Judging
 
-(* what isn't read *)
+(* what isn't read, and a number over its limit *)
 exception Bad
+exception Too_large
 
 (* numbers: those of Coq are binary ones, or unary *)
 let rec positive k = if k = 1 then XH else if k land 1 = 1 then XI (positive (k lsr 1)) else XO (positive (k lsr 1))
 let number k = if k = 0 then N0 else Npos (positive k)
-let whole k = if k = 0 then Z0 else if k > 0 then Zpos (positive k) else Zneg (positive (-k))
 let rec int_of_positive = function XH -> 1 | XO p -> 2 * int_of_positive p | XI p -> (2 * int_of_positive p) + 1
 let int_of_number = function N0 -> 0 | Npos p -> int_of_positive p
 let rec int_of_nat = function O -> 0 | S k -> 1 + int_of_nat k
 
 let nat k =
-  if k > 10_000 then raise Bad;
+  if k > 10_000 then raise Too_large;
   let rec made k = if k = 0 then O else S (made (k - 1)) in
   made k
 
-(* a number in decimal, without a leading zero, up to a limit; without one, a record could ask for a run of years *)
-let upto limit text =
-  let long = String.length text in
-  if long = 0 || long > 18 || (long > 1 && text.[0] = '0') then raise Bad;
-  let digit k c = if c < '0' || c > '9' then raise Bad else (10 * k) + Char.code c - 48 in
-  let k = Seq.fold_left digit 0 (String.to_seq text) in
-  if k > limit then raise Bad;
-  k
+(* a number in decimal, without a leading zero, up to a limit; without one, a record could ask for a run of years. It is
+   read digit by digit into Coq's own, so it is read rightly where the machine's numbers are small, as in a browser. *)
+let ten = number 10
+let digits = Array.init 10 number
 
-let number_upto limit text = number (upto limit text)
+let number_upto limit =
+  let most = number limit in
+  let with_digit x c =
+    let x = N.add (N.mul ten x) digits.(Char.code c - 48) in
+    if N.ltb most x then raise Too_large else x in
+  fun text ->
+    let is_digit c = '0' <= c && c <= '9' in
+    if text = "" || (text.[0] = '0' && text <> "0") || not (String.for_all is_digit text) then raise Bad;
+    String.fold_left with_digit N0 text
+
+let upto limit text = int_of_number (number_upto limit text)
 let nat_of text = nat (upto 10_000 text)
+
+(* a number of Coq's in decimal: its digits, the last one first, are doubled for each binary one *)
+let rec doubled carry = function
+  | [] -> if carry = 0 then [] else [ carry ]
+  | d :: l -> let d = (2 * d) + carry in (d mod 10) :: doubled (d / 10) l
+
+let rec last_digits = function XH -> [ 1 ] | XO p -> doubled 0 (last_digits p) | XI p -> doubled 1 (last_digits p)
+
+let decimal = function
+  | N0 -> "0"
+  | Npos p -> String.concat "" (List.rev_map string_of_int (last_digits p))
 
 (* tables: states are made once *)
 let states = Array.init 8 nat
@@ -38,9 +55,12 @@ let direction_of = function 'L' -> Left | 'R' -> Right | _ -> raise Bad
 
 let entry_at text n k =
   let state = text.[k + 2] in
-  if (text.[k] = '-' && text.[k + 1] = '-' && state = '-') || state = 'Z' || state = 'H' then None
-  else if Char.code state - 65 >= n then raise Bad
-  else Some { write = symbol_of text.[k]; move = direction_of text.[k + 1]; next = state_of state }
+  if text.[k] = '-' && text.[k + 1] = '-' && state = '-' then None
+  else
+    let write = symbol_of text.[k] and move = direction_of text.[k + 1] in
+    if state = 'Z' || state = 'H' then None
+    else if Char.code state - 65 >= n then raise Bad
+    else Some { write; move; next = state_of state }
 
 let table_of text =
   let n = (String.length text + 1) / 7 in
@@ -63,6 +83,7 @@ let text_of table =
   Bytes.unsafe_to_string text
 
 (* parts of fields *)
+let rest_of text k = String.sub text k (String.length text - k)
 let side_of = function "L" -> Left | "R" -> Right | _ -> raise Bad
 let array between text = Array.of_list (String.split_on_char between text)
 let word text = List.map symbol_of (List.of_seq (String.to_seq text))
@@ -86,7 +107,7 @@ let hexadecimal c =
 let members text most =
   let long = String.length text in
   let has k = let d = k / 4 in d < long && (hexadecimal text.[long - 1 - d] lsr (k mod 4)) land 1 = 1 in
-  List.filter has (List.init (most + 1) Fun.id)
+  List.filter has (List.init (most + 1) (fun k -> k))
 
 (* F: a set with the halt state is what A doesn't list *)
 let dense side m delta rows keep =
@@ -128,19 +149,25 @@ let automaton text =
   let rec rows = function a :: b :: l -> (transition a, transition b) :: rows l | [] -> [] | _ -> raise Bad in
   rows (String.split_on_char ',' text)
 
+(* a whole number that may be negative *)
+let whole =
+  let absolute = number_upto 999_999_999 in
+  fun text ->
+    if text <> "" && text.[0] = '-' then Z.opp (Z.of_N (absolute (rest_of text 1))) else Z.of_N (absolute text)
+
 (* a number for each count that has one: digits, and then the count's letter *)
 let vector text =
-  let numbers = Array.make 52 0 and from = ref 0 and highest = ref 0 in
+  let numbers = Array.make 52 Z0 and from = ref 0 and highest = ref 0 in
   let letter k c =
     if c >= 'A' then begin
       let x = count_of c in
-      numbers.(x) <- int_of_string (String.sub text !from (k - !from));
+      numbers.(x) <- whole (String.sub text !from (k - !from));
       highest := Stdlib.max !highest x;
       from := k + 1
     end in
   String.iteri letter text;
   if text = "0" then [] else if !from <> String.length text then raise Bad
-  else List.init (!highest + 1) (fun x -> whole numbers.(x))
+  else List.init (!highest + 1) (fun x -> numbers.(x))
 
 (* where the first letter stands that is a state's *)
 let state_place text =
@@ -148,8 +175,6 @@ let state_place text =
   while !k < String.length text && not (text.[!k] >= 'A' && text.[!k] <= 'G') do incr k done;
   if !k + 2 > String.length text then raise Bad;
   !k
-
-let rest_of text k = String.sub text k (String.length text - k)
 
 let item text =
   match String.split_on_char ':' text with
@@ -161,15 +186,16 @@ let item text =
   | _ -> raise Bad
 
 (* R *)
+let factor = number_upto 1_000_000
+
 let exponent text =
-  let factors = Array.make 5 0 and place = ref 0 and from = ref 0 in
+  let factors = Array.make 5 N0 and place = ref 0 and from = ref 0 in
   let ends k =
-    factors.(!place) <- upto 1_000_000 (String.sub text !from (k - !from));
+    factors.(!place) <- factor (String.sub text !from (k - !from));
     from := k + 1 in
   String.iteri (fun k c -> if c >= 'a' && c <= 'd' then begin ends k; place := Char.code c - 96 end) text;
   ends (String.length text);
-  { number = number factors.(0); fa = number factors.(1); fb = number factors.(2); fc = number factors.(3);
-    fd = number factors.(4) }
+  { number = factors.(0); fa = factors.(1); fb = factors.(2); fc = factors.(3); fd = factors.(4) }
 
 let exponents texts =
   match List.map exponent texts @ List.init 4 (fun _ -> exponent "0") with
@@ -256,8 +282,11 @@ let of_fields = function
   | [ "U" ] -> NoClaim
   | _ -> raise Bad
 
-(* the certificate of a record, by what stands behind its table; none where it isn't read *)
+(* the certificate of a record, by what stands behind its table *)
+type read = Read of certificate | Unread | Large
+
 let certificate text =
   match of_fields (String.split_on_char ' ' text) with
-  | c -> Some c
-  | exception (Bad | Invalid_argument _ | Failure _ | Division_by_zero) -> None
+  | c -> Read c
+  | exception Too_large -> Large
+  | exception (Bad | Invalid_argument _ | Failure _ | Division_by_zero) -> Unread

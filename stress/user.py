@@ -380,7 +380,7 @@ def slips(tries):
     """What is easily typed or closed too early, and what comes of it."""
     table = "1RB1LC_1RC1RB_1RD0LE_1LA1LD_---0LA"
     # who reads no more needs no words for it
-    for command in (f"echo {table} | bb show --steps 1000000", "yes 1RB1LB_1LA--- | bb tables", "yes '1RB1LB_1LA--- H 6' | bb check"):
+    for command in (f"echo {table} | bb show --steps 1000000", "yes 1RB1LB_1LA--- | bb decide", "yes '1RB1LB_1LA--- H 6' | bb check"):
         _, said, faults = tries.run(f"{{ {command}; echo $? > ended; }} | head -n 1; cat ended >&2")
         tries.expect(faults == "refused 603\n4\n" and said.count("\n") == 1, f"{command} | head: {said!r}, {faults!r}")
     # a root without entries, and one with a table behind a space

@@ -25,7 +25,7 @@ TOP = os.path.dirname(os.path.dirname(os.path.abspath(__file__)))
 sys.path.insert(0, os.path.join(TOP, "bench"))
 from program import PROGRAM  # noqa: E402
 
-WIDEST = 120
+WIDEST = 144
 # Enough answers that a pipe doesn't hold them.
 MANY = 20_000
 # Longer than the package takes on a machine that is busy, in seconds.
@@ -208,7 +208,7 @@ def beginnings(tries):
         _, said, faults = tries.run(f"{command} | head -n 1")
         tries.expect(said.rstrip("\n").lower() == first.lower(), f"{command} | head -n 1: {said!r}")
         # A stream that fails is said, as FORMATS has it, and nothing else.
-        tries.expect(faults in ("", "refused 603\nstandard output: Broken pipe (os error 32)\n") or faults.startswith("passed over: "), f"{command} | head -n 1: {faults!r}")
+        tries.expect(faults in ("", "refused 603\n") or faults.startswith("passed over: "), f"{command} | head -n 1: {faults!r}")
 
 
 def mixed_up(tries):

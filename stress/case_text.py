@@ -93,6 +93,7 @@ class Step:
 class Case:
     def __init__(self, name):
         self.name, self.files, self.steps, self.last = name, {}, [], None
+        self.has_numbers_alone = name.startswith("rows.case:")
 
     def take(self, mark, text):
         """Takes a line; whether it may stand here."""

@@ -202,10 +202,10 @@ def pipes():
         room.run(["report", name], 0, REPORT, given=WHOLE)
     room.run(["report", "-"], 0, REPORT, given=WHOLE)
     room.run(["carry", room.fed("fifo", WHOLE), "out"], 0, b"carried 3 halting 1\n", after={"out": WHOLE})
-    room.run(["mend", room.fed("fifo", SPOILT), "out"], 1, b"mended 2 dropped 1\n", after={"out": HEADER + ROOT + RIGHT})
-    room.run(["mend", "/dev/stdin", "out"], 0, b"mended 3 dropped 0\n", given=WHOLE, after={"out": WHOLE})
-    room.run(["merge", room.fed("fifo", TRUNK), "/dev/stdin", "out"], 0, b"merged 3 open 0 holdouts 0\n", given=WHOLE)
-    room.run(["merge", "a", room.fed("fifo", WHOLE), "a"], 0, b"merged 3 open 0 holdouts 0\n")
+    room.run(["mend", room.fed("fifo", SPOILT), "out", "--replace"], 1, b"mended 2 dropped 1\n", after={"out": HEADER + ROOT + RIGHT})
+    room.run(["mend", "/dev/stdin", "out", "--replace"], 0, b"mended 3 dropped 0\n", given=WHOLE, after={"out": WHOLE})
+    room.run(["merge", room.fed("fifo", TRUNK), "/dev/stdin", "out", "--replace"], 0, b"merged 3 open 0 holdouts 0\n", given=WHOLE)
+    room.run(["merge", "a", room.fed("fifo", WHOLE), "a", "--replace"], 0, b"merged 3 open 0 holdouts 0\n")
     os.rename(room.at("parts/0RA---.ledger"), room.at("part"))
     room.fed("parts/0RA---.ledger", PARTS["parts/0RA---.ledger"])
     room.run(["join", "parts"], 0, REPORT)
@@ -235,7 +235,7 @@ def without_leave():
     for words in (["run", "1", "--ledger", "a"], ["loop", "1", "--ledger", "a"], ["coord", "1", "--ledger", "a"], ["settle", "a"], ["retry", "a"]):
         room.run(words, 4, faults=b"refused 604\n", given=b"REC " + LEFT, **as_nobody)
     for words in (["merge", "b", "b", "out"], ["carry", "b", "out"], ["mend", "a", "out"], ["mend", "a", "a"]):
-        room.run(words, 4, faults=b"refused 604\n", **as_nobody)
+        room.run([*words, "--replace"], 4, faults=b"refused 604\n", **as_nobody)
     os.chmod(room.folder, 0o755)
 
 

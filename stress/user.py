@@ -25,7 +25,7 @@ TOP = os.path.dirname(os.path.dirname(os.path.abspath(__file__)))
 sys.path.insert(0, os.path.join(TOP, "bench"))
 from program import PROGRAM  # noqa: E402
 
-WIDEST = 120
+WIDEST = 144
 # Enough answers that a pipe doesn't hold them.
 MANY = 20_000
 # Longer than the package takes on a machine that is busy, in seconds.
@@ -208,7 +208,7 @@ def beginnings(tries):
         _, said, faults = tries.run(f"{command} | head -n 1")
         tries.expect(said.rstrip("\n").lower() == first.lower(), f"{command} | head -n 1: {said!r}")
         # A stream that fails is said, as FORMATS has it, and nothing else.
-        tries.expect(faults in ("", "refused 603\nstandard output: Broken pipe (os error 32)\n") or faults.startswith("passed over: "), f"{command} | head -n 1: {faults!r}")
+        tries.expect(faults in ("", "refused 603\n") or faults.startswith("passed over: "), f"{command} | head -n 1: {faults!r}")
 
 
 def mixed_up(tries):
@@ -380,7 +380,7 @@ def slips(tries):
     """What is easily typed or closed too early, and what comes of it."""
     table = "1RB1LC_1RC1RB_1RD0LE_1LA1LD_---0LA"
     # who reads no more needs no words for it
-    for command in (f"echo {table} | bb show --steps 1000000", "yes 1RB1LB_1LA--- | bb tables", "yes '1RB1LB_1LA--- H 6' | bb check"):
+    for command in (f"echo {table} | bb show --steps 1000000", "yes 1RB1LB_1LA--- | bb decide", "yes '1RB1LB_1LA--- H 6' | bb check"):
         _, said, faults = tries.run(f"{{ {command}; echo $? > ended; }} | head -n 1; cat ended >&2")
         tries.expect(faults == "refused 603\n4\n" and said.count("\n") == 1, f"{command} | head: {said!r}, {faults!r}")
     # a root without entries, and one with a table behind a space

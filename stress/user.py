@@ -25,7 +25,7 @@ TOP = os.path.dirname(os.path.dirname(os.path.abspath(__file__)))
 sys.path.insert(0, os.path.join(TOP, "bench"))
 from program import PROGRAM  # noqa: E402
 
-WIDEST = 144
+WIDEST = 120
 # Enough answers that a pipe doesn't hold them.
 MANY = 20_000
 # Longer than the package takes on a machine that is busy, in seconds.

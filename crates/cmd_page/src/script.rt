@@ -6,8 +6,8 @@
 // is sorted and filtered by, and makes its cells when it is first shown. A link is searched as the table that it ends with.
 pub(crate) const TOOLS: &[u8] = br#"
 const kinds = {
-  'H': ['halting', 'The run from the blank tape comes to a pair without an entry after so many steps, with so many ones '
-    + 'on its tape.'],
+  'H': ['halting', 'The run from the blank tape comes to a pair without an entry after so many steps, with so many '
+    + 'ones on its tape.'],
   'C': ['cycler', 'The run comes to one and the same configuration at two times, and so again and again.'],
   'T': ['translated cycler', 'From a time on the run repeats itself, each time moved along the tape by the same number '
     + 'of cells.'],
@@ -198,15 +198,16 @@ const rows = lines.map(line => JSON.parse(line)).map(object => {
   const {line, table, kind, verdict, steps, ones, code, meaning, text, words} = object, given = plain(text);
   const counts = steps === null ? '' : ` ${told(steps)}` + (ones === null ? '' : `, ones ${told(ones)}`);
   const shown = verdict + (code === null ? counts : ` ${code}`), said = plain(words ?? meaning).trim();
+  const name = kind === null ? '' : kinds[kind][0];
   const certificate = table === null ? given : given.slice(given.indexOf(' ') + 1);
   const folded = () => certificate.length <= 120 ? make('code', {}, certificate)
     : make('details', {}, make('summary', {}, told(certificate.length) + ' bytes'), make('code', {}, certificate));
   const rank = verdict === 'halts' ? steps : 1e12 * (1 + verdicts.indexOf(verdict));
   return {
-    table, text: `${given} ${shown} ${said}`.toUpperCase(), marks: [verdict, kind ?? ''],
+    table, text: `${given} ${shown} ${name} ${said}`.toUpperCase(), marks: [verdict, kind ?? ''],
     keys: [line, rank, letters.indexOf(kind), line],
     cells: () => [table === null ? [] : [tableLink(table), ' ', runButton(table)], [shown],
-      kind === null ? [] : [make('code', {}, kind), ' ' + kinds[kind][0]], [said, make('div', {}, folded())]],
+      kind === null ? [] : [make('code', {}, kind), ' ' + name], [said, make('div', {}, folded())]],
   };
 });
 const counted = (place, value) => rows.filter(({marks}) => marks[place] === value).length;

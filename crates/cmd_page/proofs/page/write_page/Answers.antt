@@ -7,6 +7,6 @@ returns-clause-ok g c =
     let board = c.args.board.now in
     on_ok c.write_report.result (λ so. (
       so.0,
-      counted_page c.args.heading.now board.root board.records c.args.left.now so.0 c.census_of.result c.census_of.ensures so.1,
+      counted_page c.args.heading.now board.root board.records c.args.left.now so.0 c.census_of-census.result c.census_of-census.ensures so.1,
       so.2,
     )) c.write_report.ensures.ok

@@ -6,7 +6,7 @@ use Rattle.machine_text.specs.Packed.{Packed}
 use Rattle.cert.specs.Claim.{Recorded}
 use Rattle.ledger.specs.declared.left.Left.{Left}
 use Rattle.cmd_options.specs.Kinds.{kind_letters}
-use Rattle.cmd_page.specs.Census.{Numbers, numbers_of}
+use Rattle.cmd_page.specs.Census.{numbers_of}
 use Rattle.cmd_page.specs.Counting.{HasCounted, census_numbers}
 use Rattle.cmd_page.specs.Counts.{counts_json, item_json, kind_json, kinds_json, left_json, numbers_json, rest_json}
 use Rattle.cmd_page.specs.Heading.{Headed}

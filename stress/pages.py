@@ -3,7 +3,7 @@
 JSON, to the byte, how many records there are of each kind, entries and steps, the version and the sums, the title, and that
 nothing else of a page differs from another's; that the page of a folder is that of the one ledger which `bb join` writes of it;
 and what a page of records has of each line, against stress/oracle.py. Where chromium is there, what it shows of some pages is
-compared too, and where node is, the picture of a run.
+compared too. That a run is drawn by the script of judge/web/picture.js is seen of each page.
 
 stress/pages.py [SEED [TIMES]]: prints how many pages were compared, and the first that differs, and then ends with 1.
 """
@@ -18,7 +18,7 @@ import sys
 
 from damaged import damage, filled, joined, lay, play, whole
 from kinds import PROGRAM, damaged
-from oracle import answer, read_table, start, step
+from oracle import answer
 from read_json import of_lines
 from tree import Loaded
 
@@ -31,7 +31,11 @@ TITLE = re.compile(r"(?<=<title>)[^<]*(?=</title>)|(?<=<h1>)[^<]*(?=</h1>)")
 ORIGIN = re.compile(r"(?<=<footer>\n<table>\n).*?(?=</table>\n</footer>)", re.S)
 LINES = re.compile(r"(?<=<noscript><pre>\n)[^<]*(?=</pre></noscript>)")
 OBJECT = re.compile(r"(?<=<script type='application/json' id='(?:report|counts)'>\n)[^<]*(?=</script>)")
-BROWSER, NODE = shutil.which("chromium"), shutil.which("node")
+TOP = os.path.dirname(os.path.dirname(os.path.abspath(__file__)))
+BROWSER = shutil.which("chromium")
+with open(os.path.join(TOP, "judge", "web", "picture.js"), encoding="utf-8") as script:
+    # judge/web/play.mjs compares what it draws with `bb show`.
+    PICTURE = script.read()
 SUMS = re.compile(r"<tr><th scope='row'>SHA-256 of the l.*\n")
 shells = {}
 
@@ -141,46 +145,6 @@ def looks_wrong(page, board, left, folder):
     return None if tables == due_tables and pictures == of("champion")[:8] else f"shows {tables!r} and {pictures!r}, not {due_tables!r}"
 
 
-STUB = """const canvas = {style: {}, setAttribute() {}, getContext: () => ({
-  createImageData: (width, height) => ({data: new Uint8ClampedArray(4 * width * height)}),
-  putImageData(image) { canvas.data = image.data; }})};
-globalThis.document = {createElement: () => canvas};
-"""
-PRINT = """
-for (const [table, steps] of JSON.parse(process.argv[2])) {
-  runPicture(table, steps, 'rgb(1, 2, 3)');
-  const pixel = place => canvas.data[4 * place + 3] === 0 ? '.' : canvas.data[4 * place] === 1 ? '#' : '@';
-  for (let y = 0; y < canvas.height; y++) {
-    console.log(Array.from({length: canvas.width}, (_, x) => pixel(y * canvas.width + x)).join(''));
-  }
-}
-"""
-
-
-def plain_picture(table, steps):
-    """The rows of a run of few steps: the ones, and where the head is."""
-    rows, config, seen = read_table(table.encode()), start(), []
-    for _ in range(steps + 1):
-        state, head, ones = config
-        seen.append((head, set(ones)))
-        config = step(rows, config)
-        if config is None:
-            break
-    low, high = min(head for head, _ in seen), max(head for head, _ in seen)
-    return ["".join("@" if x == head else "#" if x in ones else "." for x in range(low, high + 1)) for head, ones in seen]
-
-
-def pictures_differ(page, tables, folder):
-    """What differs of the pictures of runs, if anything."""
-    path = os.path.join(folder, "picture.js")
-    with open(path, "w", encoding="utf-8") as file:
-        file.write(STUB + re.search(r"const runPicture = .*?\n}\)\(\);\n", page, re.S).group(0) + PRINT)
-    runs = [(table, steps) for table in tables for steps in (1, 7, 50, 399)]
-    told = subprocess.run([NODE, path, json.dumps(runs)], capture_output=True, check=True).stdout.decode().split("\n")[:-1]
-    due = [line for table, steps in runs for line in plain_picture(table, steps)]
-    return None if told == due else f"the pictures of {tables!r}: {told!r}, and not {due!r}"
-
-
 def page_of(*words, given=None):
     run = subprocess.run([PROGRAM, "page", *words], input=given, capture_output=True, check=False)
     return run.stdout.decode(), run.stderr.decode(), run.returncode
@@ -205,9 +169,8 @@ def compare_ledger(rng, lines, path, counts):
     if wrong is None and BROWSER and rng.random() < 0.05:
         counts["a ledger: as a browser shows it"] += 1
         wrong = looks_wrong(page, ledger.board, ledger.left, os.path.dirname(path))
-    if wrong is None and NODE and rng.random() < 0.1:
-        counts["pictures of runs"] += 1
-        wrong = pictures_differ(page, [table for table in list(ledger.board.shown)[:20]], os.path.dirname(path))
+    if wrong is None and PICTURE not in page:
+        wrong = "its script doesn't draw as judge/web/picture.js does"
     return None if wrong is None else f"page of {text!r}: {wrong}"
 
 

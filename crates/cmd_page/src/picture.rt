@@ -1,74 +1,118 @@
-// What draws the run of a table, in a browser.
-
-// One function, which stands alone: of a table's text and at most so many steps it answers a canvas, a pixel a cell and a
-// time, words for what is seen, and how many times a small picture is enlarged, to some 300 pixels. The run is gone through
-// twice, first for how long and how wide it is; then the ones of each column are counted as they are written. A column of
-// several cells is dark where more than half hold a one, and pale where some do.
+// What draws the run of a table, in a browser: the text of judge/web/picture.js, which docs/judge.html has too (stress/pages.py
+// compares both).
 pub(crate) const PICTURE: &[u8] = br#"
-const runPicture = (() => {
-  const colours = ['#e66950', '#195feb', '#8a8400', '#d76ebe', '#2391fa', '#a52daa', '#c3870f'];
-  const mostRows = 400, mostColumns = 1200, wanted = 300;
-  const entriesOf = text => text.split('_').flatMap(row => [row.slice(0, 3), row.slice(3)]).map(entry =>
-    entry === '---' ? -1 : Number(entry[0]) + (entry[1] === 'R' ? 2 : 0) + 4 * (entry.charCodeAt(2) - 65));
-  function measured(entries, steps) {
-    let cells = new Uint8Array(1024), head = 512, state = 0, step = 0, origin = 512, low = 512, high = 512;
-    for (let entry; step < steps && (entry = entries[2 * state + cells[head]]) >= 0; step++) {
-      cells[head] = entry & 1;
-      head += (entry & 2) - 1;
-      state = entry >> 2;
-      if (head > high) high = head;
-      if (head < low) low = head;
-      if (head === 0 || head === cells.length - 1) {
-        const more = new Uint8Array(3 * cells.length), moved = cells.length;
-        more.set(cells, moved);
-        [cells, head, origin, low, high] = [more, head + moved, origin + moved, low + moved, high + moved];
-      }
-    }
-    return {last: step, halts: entries[2 * state + cells[head]] < 0, start: origin - low, width: high - low + 1};
+// Pictures of runs. Time goes downwards, cells to the right; ones are dark, and the head has its state's colour. The file stands by
+// itself: docs/judge.html has it, and any other page can take it over as it is.
+
+const STATE_COLOURS = ['#e66950', '#195feb', '#696400', '#d76ebe', '#2391fa', '#a52daa', '#c3870f'];
+
+// What a pixel shows: a column of blanks, one with ones in up to half of its cells, one with more, or the head in a state.
+const BLANK = 0, SOME = 1, MOST = 2, HEAD = 3;
+
+// A run from the blank tape. The tape grows as the head comes to new cells; `origin` is where the run began.
+class Run {
+  constructor(table) {
+    const entries = table.split('_').flatMap(row => [row.slice(0, 3), row.slice(3)]);
+    this.writes = Uint8Array.from(entries, entry => Number(entry[0] === '1'));
+    this.moves = Int8Array.from(entries, entry => (entry[1] === 'R' ? 1 : -1));
+    this.nexts = Int8Array.from(entries, entry => (/[A-G]/.test(entry[2]) ? entry.charCodeAt(2) - 65 : -1));
+    this.tape = new Uint8Array(1024);
+    this.origin = this.head = this.low = this.high = 512;
+    this.state = this.step = this.ones = 0;
   }
-  const channels = colour => colour.startsWith('#')
-    ? [1, 3, 5].map(place => parseInt(colour.slice(place, place + 2), 16))
-    : colour.match(/\d+/g).slice(0, 3).map(Number);
-  function drawn(entries, {last, start, width}, ink) {
-    const every = Math.ceil((last + 1) / mostRows), rows = Math.ceil(last / every) + 1;
-    const group = Math.ceil(width / mostColumns), columns = Math.ceil(width / group);
-    const canvas = document.createElement('canvas');
-    [canvas.width, canvas.height] = [columns, rows];
-    const pen = canvas.getContext('2d'), image = pen.createImageData(columns, rows);
-    const pixels = image.data, states = colours.map(channels), dark = channels(ink);
-    const cells = new Uint8Array(width), ones = new Int32Array(columns);
-    let head = start, state = 0, row = 0;
-    for (let step = 0; ; step++) {
-      if (step % every === 0 || step === last) {
-        for (let column = 0; column < columns; column++) {
-          const at = 4 * (row * columns + column), count = ones[column], size = Math.min(group, width - column * group);
-          if (count) pixels.set([...dark, 2 * count > size ? 255 : 110], at);
-        }
-        pixels.set([...states[state], 255], 4 * (row * columns + Math.floor(head / group)));
-        row++;
-      }
-      if (step === last) break;
-      const entry = entries[2 * state + cells[head]], written = entry & 1;
-      if (written !== cells[head]) {
-        ones[Math.floor(head / group)] += 2 * written - 1;
-        cells[head] = written;
-      }
-      head += (entry & 2) - 1;
-      state = entry >> 2;
-    }
-    pen.putImageData(image, 0, 0);
-    return {canvas, every, group};
+
+  // Whether the entry is undefined, so that the next step halts.
+  isAtEnd() {
+    return this.nexts[2 * this.state + this.tape[this.head]] < 0;
   }
-  return (text, steps, ink) => {
-    const entries = entriesOf(text), run = measured(entries, steps), {canvas, every, group} = drawn(entries, run, ink);
-    const told = number => number.toLocaleString('en');
-    const rows = every === 1 ? 'a row each' : `a row every ${told(every)}`;
-    const columns = group === 1 ? '' : `, a column for each ${told(group)}`;
-    const words = `Steps 0 to ${told(run.last)}, ${rows}; ${told(run.width)} cells${columns}`
-      + (run.halts ? '; it halts with the next step' : '');
-    canvas.setAttribute('role', 'img');
-    canvas.setAttribute('aria-label', `Run of ${text}. ${words}`);
-    return {canvas, words, zoom: Math.max(1, Math.floor(wanted / Math.max(canvas.width, canvas.height)))};
+
+  // Takes a step; answers false where that would halt.
+  go() {
+    const symbol = this.tape[this.head], entry = 2 * this.state + symbol;
+    if (this.nexts[entry] < 0) return false;
+    this.tape[this.head] = this.writes[entry];
+    this.ones += this.writes[entry] - symbol;
+    this.head += this.moves[entry];
+    this.state = this.nexts[entry];
+    this.step++;
+    if (this.head < this.low) this.low = this.head;
+    if (this.head > this.high) this.high = this.head;
+    if (this.head < 1 || this.head > this.tape.length - 2) this.grow();
+    return true;
+  }
+
+  grow() {
+    const more = this.tape.length / 2, tape = new Uint8Array(4 * more);
+    tape.set(this.tape, more);
+    this.tape = tape;
+    for (const place of ['origin', 'head', 'low', 'high']) this[place] += more;
+  }
+}
+
+// The picture of so many steps of a table's run, or up to its halt: how many pixels it has, and what each shows; the time of its
+// last row or later, up to which it was run; whether the table halts with the next step, and how many ones it leaves then; which
+// times have a row, how many cells share a column, and the first and the last cell that the head visits. It has so many rows and
+// columns at most, and one row more where the run halts.
+function pictureOf(table, steps, rows = 2000, columns = 1200) {
+  const whole = new Run(table);
+  while (whole.step < steps && whole.go());
+  const last = whole.step, halts = whole.isAtEnd(), from = whole.low - whole.origin, to = whole.high - whole.origin;
+  const every = Math.floor(last / rows) + 1, share = Math.ceil((to - from + 1) / columns);
+  const width = Math.ceil((to - from + 1) / share);
+  const height = Math.floor(last / every) + 1 + Number(halts && last % every > 0);
+  const picture = {width, height, cells: new Uint8Array(width * height), last, halts, every, share, from, to};
+  fill(picture, new Run(table));
+  return {...picture, ones: whole.ones + Number(whole.tape[whole.head] === 0)};
+}
+
+// Follows a run once more, with how many cells of each column hold a one, and fills in the rows.
+function fill({width, cells, last, halts, every, share, from, to}, run) {
+  const ones = new Uint32Array(width);
+  const columnOf = place => Math.floor((place - run.origin - from) / share);
+  const fillRow = offset => {
+    for (let column = 0; column < width; column++) {
+      const size = Math.min(share, to - from + 1 - column * share);
+      cells[offset + column] = ones[column] === 0 ? BLANK : 2 * ones[column] > size ? MOST : SOME;
+    }
+    cells[offset + columnOf(run.head)] = HEAD + run.state;
   };
-})();
+  for (let offset = 0; ; ) {
+    if (run.step % every === 0 || (halts && run.step === last)) {
+      fillRow(offset);
+      offset += width;
+    }
+    if (run.step === last) return;
+    const column = columnOf(run.head), before = run.ones;
+    run.go();
+    ones[column] += run.ones - before;
+  }
+}
+
+// Red, green, blue and opacity of what a pixel shows, where the text of the page has the colour `ink`, as `rgb(27, 31, 36)`.
+function paletteOf(ink) {
+  const dark = ink.match(/\d+/g).slice(0, 3).map(Number);
+  const colours = STATE_COLOURS.map(text => [1, 3, 5].map(place => parseInt(text.slice(place, place + 2), 16)));
+  const shown = [[0, 0, 0, 0], [...dark, 90], [...dark, 255], ...colours.map(colour => [...colour, 255])];
+  return new Uint32Array(Uint8Array.from(shown.flat()).buffer);
+}
+
+// Paints a picture on a canvas, so many pixels of the page wide for each of its own.
+function paint(canvas, {width, height, cells}, zoom, ink) {
+  const palette = paletteOf(ink), pen = canvas.getContext('2d');
+  canvas.width = width;
+  canvas.height = height;
+  canvas.style.width = width * zoom + 'px';
+  const image = pen.createImageData(width, height), pixels = new Uint32Array(image.data.buffer);
+  cells.forEach((pixel, place) => {
+    pixels[place] = palette[pixel];
+  });
+  pen.putImageData(image, 0, 0);
+}
+
+// Draws so many steps of a table's run on a canvas; answers the picture.
+function drawRun(canvas, table, steps, zoom) {
+  const picture = pictureOf(table, steps);
+  paint(canvas, picture, zoom, getComputedStyle(document.body).color);
+  return picture;
+}
 "#;

@@ -47,21 +47,27 @@ function choice(label, options, act) {
   made.addEventListener('change', act);
   return made;
 }
+function wordsOf({last, every, share, from, to, halts}) {
+  const rows = every === 1 ? 'a row each' : `a row every ${told(every)}`;
+  const columns = share === 1 ? '' : `, a column for each ${told(share)}`;
+  return `Steps 0 to ${told(last)}, ${rows}; ${told(to - from + 1)} cells${columns}` + (halts ? '; it halts with the next step' : '');
+}
 function runPanel(table, most) {
   const field = (name, value, max) =>
     make('input', {type: 'number', min: 1, max, value, 'aria-label': `${name} of the run of ${table}`});
   const steps = field('Steps', most, 100000000), zoom = field('Zoom', 1, 300), view = make('div', {class: 'view'});
-  const words = make('p', {}), size = ({canvas}) => { canvas.style.width = canvas.width * zoom.value + 'px'; };
-  let drawn;
+  const words = make('p', {}), canvas = make('canvas', {role: 'img'});
+  const size = () => { canvas.style.width = canvas.width * zoom.value + 'px'; };
   const draw = () => {
-    drawn = runPicture(table, Math.min(Math.max(Number(steps.value), 1), steps.max), getComputedStyle(view).color);
-    zoom.value = drawn.zoom;
-    size(drawn);
-    view.replaceChildren(drawn.canvas);
-    words.textContent = drawn.words;
+    const picture = drawRun(canvas, table, Math.min(Math.max(Number(steps.value), 1), steps.max), 1);
+    zoom.value = Math.max(1, Math.floor(300 / Math.max(picture.width, picture.height)));
+    size();
+    view.replaceChildren(canvas);
+    words.textContent = wordsOf(picture);
+    canvas.setAttribute('aria-label', `Run of ${table}. ${words.textContent}`);
   };
   steps.addEventListener('change', draw);
-  zoom.addEventListener('input', () => drawn && zoom.value > 0 && size(drawn));
+  zoom.addEventListener('input', () => zoom.value > 0 && size());
   setTimeout(draw);
   const fields = make('div', {class: 'tools'}, make('label', {}, 'Steps ', steps), make('label', {}, 'Zoom ', zoom));
   return make('div', {class: 'run'}, fields, view, words);

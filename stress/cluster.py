@@ -20,6 +20,7 @@ import argparse
 import itertools
 import os
 import random
+import re
 import resource
 import select
 import signal
@@ -154,12 +155,16 @@ class Relay:
             far.close()
 
 
+# What is said of who is turned away, and that is all that may be said.
+TURNED_AWAY = re.compile(rb"(?:[^ \n]+ (?:is gone|isn't let in): [^\n]+\n|\d+ more came or went\n)*")
+
+
 def check(name, coordinator, expected, seconds, workers=(), may_be_late=False):
     """Each worker has to end with 0, or, where that may be, one of them, and others look for a coordinator that is gone."""
     status, said, faults = coordinator.ended(seconds)
     statuses = ends(workers, 2 if may_be_late else 60)
     are_well = 0 in statuses and set(statuses) <= {0, -signal.SIGKILL} if may_be_late else not any(statuses)
-    if status != 0 or said != expected or faults or not are_well:
+    if status != 0 or said != expected or not TURNED_AWAY.fullmatch(faults) or not are_well:
         print(f"{name}: status {status}, {faults!r}, workers {statuses}, report:\n{said.decode()}")
         sys.exit(1)
 

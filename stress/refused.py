@@ -112,7 +112,7 @@ COMMANDS = [
     (["join", ".", "--ledger", "trunk.ledger", "--replace"], b"", PARTS, "trunk.ledger"),
     (["join", ".", "--ledger", "1RA---.ledger"], b"", PARTS, "1RA---.ledger"),
     (["merge", "a", "a.new", "a", "--replace"], b"", {"a": FIRST, "a.new": SECOND}, "a.new"),
-    (["join", ".", "--json", "--ledger", "out"], b"", {**PARTS, "out": ONE}, "out"),
+    (["join", ".", "--json", "--ledger", "out", "--replace"], b"", {**PARTS, "out": ONE}, "out"),
 ]
 
 PROGRAM_ROW = re.compile(rb"<tr><th scope='row'>SHA-256 of the program</th><td><code>[0-9a-f]{64}</code></td></tr>\n")

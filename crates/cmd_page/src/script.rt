@@ -50,7 +50,8 @@ function choice(label, options, act) {
 function wordsOf({last, every, share, from, to, halts}) {
   const rows = every === 1 ? 'a row each' : `a row every ${told(every)}`;
   const columns = share === 1 ? '' : `, a column for each ${told(share)}`;
-  return `Steps 0 to ${told(last)}, ${rows}; ${told(to - from + 1)} cells${columns}` + (halts ? '; it halts with the next step' : '');
+  return `Steps 0 to ${told(last)}, ${rows}; ${told(to - from + 1)} cells${columns}`
+    + (halts ? '; it halts with the next step' : '');
 }
 function runPanel(table, most) {
   const field = (name, value, max) =>

@@ -4,6 +4,7 @@
 #   contrib/six.sh DIR --again G                      walks a group once more, and compares
 #   contrib/six.sh DIR --sum                          what all groups in DIR come to, as a report
 #   contrib/six.sh DIR --holdouts                     the tables that are left, a line each
+#   contrib/six.sh DIR --settle OPTIONS..             tries those with other options of bb decide, and keeps what it finds
 #   contrib/six.sh DIR --begin COMMIT OPTIONS..       makes DIR, for the program of a commit and these options of bb walk
 # examples/six is such a DIR, and what was walked so far.
 #
@@ -18,6 +19,10 @@
 #   GGG.xz     of each root of the group, in order, a line `nodes halting never holdouts best ones`, and behind it its holdouts; its
 #              champions where its best is the group's; made once and never changed
 #   sums       a line a group: G, the SHA-256 of its text, tables, holdouts, processor seconds
+#   late.xz    the records that --settle found of what the groups have left, by the program of now (or the one that BB names), in the
+#              order of their texts; each is accepted by bb check
+#   below.xz   of each of those that halt and have more than one entry open a line `below TABLE` and the numbers of its tree, of
+#              which only the table itself was walked before, and behind it the tree's holdouts and champions
 #   begun/     roots that are walked of groups that aren't whole yet; nothing else is left by a run that was stopped
 #
 # --hours begins no root after H hours, says which groups are whole, and ends with 0. JOBS is how many walks go on at once. --sum says
@@ -243,7 +248,41 @@ kept() {
     done
 }
 
-# The report of the trunk's records and of all groups; the trunk's tables that halt are nodes of the tree too.
+# The tables that are left: of the groups and of what lies below, except those that have a record by now.
+left() {
+    late below | sed -n 's/^holdout //p' | sort > "$place/below"
+    late late | cut -d ' ' -f 1 > "$place/settled"
+    sed -n 's/^holdout //p' "$place/kept" | sort - "$place/below" | comm -23 - "$place/settled"
+}
+
+# What is kept of --settle: late or below.
+late() {
+    [ ! -e "$folder/$1.xz" ] || xz -dc "$folder/$1.xz"
+}
+
+# Tries what is left with some options of bb decide. A table that halts after all hides the tree below it, which is walked then.
+settle() {
+    bb=${BB:-$top/dist/bb-linux-x86_64}
+    left > "$place/left"
+    split -n "r/$jobs" "$place/left" "$place/left."
+    find "$place" -name 'left.*' | xargs -P "$jobs" -I {} "$bb" decide "$@" --input {} | grep -v ' U$' | sort > "$place/found" || :
+    "$bb" check < "$place/found" | grep -v '^[^ ]* \(halts\|never\)' && fail "a record doesn't stand"
+    { late late; cat "$place/found"; } | sort > "$place/late"
+    late below > "$place/below.new"
+    awk '{ table = $1 } $2 == "H" && gsub(/---/, "", table) > 1 { print $1 }' "$place/found" | while read -r root; do
+        # shellcheck disable=SC2046
+        "$bb" walk 6 --root "$root" --known "$place/late" $(said options) > "$place/report" || [ $? -eq 1 ] || fail "$root: no report"
+        awk "$group" "$place/report" | sed "1s/^/below $root /" >> "$place/below.new"
+    done
+    xz -c "$place/late" > "$folder/late.xz.new"
+    xz -c "$place/below.new" > "$folder/below.xz.new"
+    mv "$folder/below.xz.new" "$folder/below.xz"
+    mv "$folder/late.xz.new" "$folder/late.xz"
+    echo "$(wc -l < "$place/found") of $(wc -l < "$place/left") have a record now, $(left | wc -l) are left" >&2
+}
+
+# The report of the trunk's records and of all groups; the trunk's tables that halt are nodes of the tree too. Behind a line `late`
+# stand records of holdouts, and the trees below those that halt.
 sum='
 $1 == "group" { groups++; number = $2; expected += number < 241 ? 1000 : 368; next }
 /^[0-9]/ && NF == 6 { roots++; nodes += $1; halting += $2; never += $3; holdouts += $4; steps = $5 == "none" ? -1 : $5 + 0
@@ -253,12 +292,19 @@ $1 == "group" { groups++; number = $2; expected += number < 241 ? 1000 : 368; ne
     next }
 $1 == "champion" { if (steps == best) champions = champions $0 "\n"; next }
 $1 == "ones_champion" { if (score == ones) scored = scored $0 "\n"; next }
-$1 == "holdout" { left = left $0 "\n"; next }
+$1 == "holdout" { next }
+$1 == "below" { nodes += $3 - 1; halting += $4 - 1; never += $5; holdouts += $6; steps = $7 == "none" ? -1 : $7 + 0
+    score = $8 == "none" ? -1 : $8 + 0
+    if (steps > best) { best = steps; champions = "" }
+    if (score > ones) { ones = score; scored = "" }
+    next }
+$1 == "late" { late = 1; next }
+late { nodes--; holdouts-- }
 $2 == "H" { nodes++; halting++; if ($3 + 0 > best) { best = $3 + 0; champions = "" } if ($4 + 0 > ones) { ones = $4 + 0; scored = "" }
     if ($3 + 0 == best) champions = champions "champion " $1 "\n"
     if ($4 + 0 == ones) scored = scored "ones_champion " $1 "\n"
     next }
-$2 == "U" { nodes++; holdouts++; left = left "holdout " $1 "\n"; next }
+$2 == "U" { nodes++; holdouts++; next }
 $2 != "" { nodes++; never++ }
 function sorted(lines) { if (lines != "") { printf "%s", lines | "sort"; close("sort") } }
 END {
@@ -289,7 +335,8 @@ case $2 in
     --groups)
         case $4 in --hours | "") walk_groups "$3" "$5" ;; *) fail "--hours H may follow" ;; esac ;;
     --again) again "${3:?a group}" ;;
-    --sum) kept > "$place/kept"; { xz -dc "$folder/trunk.xz"; cat "$place/kept"; } | awk "$sum" ;;
-    --holdouts) kept > "$place/kept"; sed -n 's/^holdout //p' "$place/kept" | sort ;;
+    --sum) kept > "$place/kept"; { xz -dc "$folder/trunk.xz"; cat "$place/kept"; late below; echo late; late late; } | awk "$sum" ;;
+    --holdouts) kept > "$place/kept"; left ;;
+    --settle) shift 2; kept > "$place/kept"; settle "$@" ;;
     *) help >&2; exit 2 ;;
 esac

@@ -12,6 +12,7 @@ Prints how many of each end were compared, and the first that differs, and then 
 import collections
 import os
 import random
+import re
 import shutil
 import subprocess
 import sys
@@ -20,6 +21,12 @@ import tempfile
 from kinds import PROGRAM, damaged, none_differs
 from oracle import answer, printed, read_table
 from tree import HEADER, HEADERS, Board, Loaded, in_version, reported
+
+
+def answered(run):
+    """What standard error says, without the lines that say why in words: these begin with a place."""
+    return "".join(line for line in run.stderr.decode().splitlines(True) if not re.match(r"(/[^\n]*|standard input): (?!refused |left |missing|[0-9]+ bytes were cut)", line))
+
 
 def older(lines):
     """The same ledger in version 1."""
@@ -103,9 +110,9 @@ def compare_report(rng, ledgers, folder, counts):
         file.write(text)
     run = subprocess.run([PROGRAM, "report", path], capture_output=True, check=False)
     counts[fault.strip() or ("left a line" if "\nleft " in report else "kept whole")] += 1
-    if (run.stdout.decode(), run.stderr.decode()) == (report or "", fault):
+    if (run.stdout.decode(), answered(run)) == (report or "", fault):
         return None
-    return f"{text!r}: {run.stdout.decode()!r}, {run.stderr.decode()!r}, and not {report!r}, {fault!r}"
+    return f"{text!r}: {run.stdout.decode()!r}, {answered(run)!r}, and not {report!r}, {fault!r}"
 
 
 def written(board):
@@ -158,12 +165,12 @@ def compare_merge(rng, ledgers, folder, counts):
     if os.path.exists(paths[2]):
         os.remove(paths[2])
     out = rng.choice(paths)
-    run = subprocess.run([PROGRAM, "merge", paths[0], paths[1], out], capture_output=True, check=False)
+    run = subprocess.run([PROGRAM, "merge", paths[0], paths[1], out, "--replace"], capture_output=True, check=False)
     text = None
     if due[0] is not None:
         with open(out, "rb") as file:
             text = file.read()
-    told = (text, run.stdout.decode(), run.stderr.decode())
+    told = (text, run.stdout.decode(), answered(run))
     counts["merge: " + (due[2].strip() or ("left a line" if "left" in due[1] else "all kept"))] += 1
     return None if told == due else f"merge of {first!r} and {second!r}: {told!r}, and not {due!r}"
 
@@ -193,7 +200,7 @@ def compare_retry(rng, ledgers, folder, counts):
     for line in after[len(kept):].split(b"\n")[:-1]:
         if answer(line) is None or board.board.take(line, board.version) is not None:
             return f"retry of {text!r}: {line!r}"
-    if (run.stdout.decode(), run.stderr) != (board.board.report(None), b""):
+    if (run.stdout.decode(), answered(run)) != (board.board.report(None), ""):
         return f"retry of {text!r}: {run.stdout!r}, {run.stderr!r}"
     counts["retry: " + ("lines added" if tried else "nothing found" if holdouts else "no holdout")] += 1
     return None
@@ -237,12 +244,12 @@ def compare_mend(rng, text, folder, counts):
     is_stream = rng.random() < 0.5
     if not is_stream and rng.random() < 0.3:
         out = path
-    run = subprocess.run([PROGRAM, "mend", "-" if is_stream else path, out], input=text if is_stream else None, capture_output=True, check=False)
+    run = subprocess.run([PROGRAM, "mend", "-" if is_stream else path, out, "--replace"], input=text if is_stream else None, capture_output=True, check=False)
     held = None
     if due[0] is not None:
         with open(out, "rb") as file:
             held = file.read()
-    told = (held, run.stdout.decode(), run.stderr.decode(), run.returncode)
+    told = (held, run.stdout.decode(), answered(run), run.returncode)
     counts["mend: " + (due[2].strip() or ("lines dropped" if due[3] else "all taken"))] += 1
     return None if told == due else f"mend of {text!r}: {told!r}, and not {due!r}"
 
@@ -361,8 +368,8 @@ def compare_join(texts, folder, counts):
         counts["too long to judge here"] += 1
         return None
     out = os.path.join(folder, "out")
-    run = subprocess.run([PROGRAM, "join", folder, "--ledger", out], capture_output=True, check=False)
-    told = (run.stdout.decode(), run.stderr.decode(), run.returncode)
+    run = subprocess.run([PROGRAM, "join", folder, "--ledger", out, "--replace"], capture_output=True, check=False)
+    told = (run.stdout.decode(), answered(run), run.returncode)
     if board is None:
         due = ("", said, 1)
     else:
@@ -389,7 +396,7 @@ def compare_settle(rng, texts, folder, counts):
         return None
     with open(path, "rb") as file:
         after = file.read()
-    told = (run.stdout.decode(), run.stderr.decode(), run.returncode)
+    told = (run.stdout.decode(), answered(run), run.returncode)
     if ledger.fault:
         counts["settle: refused"] += 1
         return None if (told, after) == (("", ledger.fault, 1), texts[name]) else f"settle of {texts[name]!r}: {told!r}"

@@ -103,7 +103,7 @@ def undisturbed(command, folder, given=b""):
 def mends_to_itself(path):
     """Whether `bb mend` of a ledger drops nothing, and finds nothing but what stands there."""
     out = path + ".mended"
-    done = subprocess.run([BB, "mend", path, out], capture_output=True, check=False)
+    done = subprocess.run([BB, "mend", path, out, "--replace"], capture_output=True, check=False)
     tables = {line.split(b" ")[0] for line in held(path).splitlines()[1:]}
     if done.returncode != 0 or done.stdout != b"mended %d dropped 0\n" % len(tables) or {line.split(b" ")[0] for line in held(out).splitlines()[1:]} != tables:
         fault(f"mend of {path}: {done.returncode}, {done.stdout!r}")
@@ -139,8 +139,8 @@ def mended(ledger, folder, chance):
     """The tables that come back of a ledger and what was cut off it, where the first mending is ended too."""
     text = b"".join(held(path) for path in (ledger, ledger + ".cut") if os.path.exists(path))
     out = os.path.join(folder, "mended")
-    killed([BB, "mend", "-", out], chance.uniform(0, 0.01), [text])
-    subprocess.run([BB, "mend", "-", out], input=text, capture_output=True, check=False)
+    killed([BB, "mend", "-", out, "--replace"], chance.uniform(0, 0.01), [text])
+    subprocess.run([BB, "mend", "-", out, "--replace"], input=text, capture_output=True, check=False)
     return tables_of(held(out))
 
 
@@ -235,26 +235,26 @@ def merge(turns, chance, folder):
     lines = four_states()
     put(os.path.join(folder, "a"), unverdicted(lines[:LINES], 50))
     put(os.path.join(folder, "b"), unverdicted(lines, 70))
-    return written(turns, chance, folder, [BB, "merge", "a", "b", "OUT"], "a")
+    return written(turns, chance, folder, [BB, "merge", "a", "b", "OUT", "--replace"], "a")
 
 
 def carry(turns, chance, folder):
     lines = [b" ".join(line.split(b" ")[:3]) + b"\n" if b" H " in line else line for line in four_states()[:LINES]]
     put(os.path.join(folder, "a"), [lines[0].replace(b"bb-ledger 2", b"bb-ledger 1"), *lines[1:]])
-    return written(turns, chance, folder, [BB, "carry", "a", "OUT"], "a")
+    return written(turns, chance, folder, [BB, "carry", "a", "OUT", "--replace"], "a")
 
 
 def mend(turns, chance, folder):
     lines = [line[:-1] + b"\r\n" if place and place % 1_000 == 0 else line for place, line in enumerate(four_states()[:LINES])]
     put(os.path.join(folder, "a"), lines)
-    return written(turns, chance, folder, [BB, "mend", "a", "OUT"], "a")
+    return written(turns, chance, folder, [BB, "mend", "a", "OUT", "--replace"], "a")
 
 
 def join(turns, chance, folder):
     undisturbed([BB, "split", "3", "parts", "--filled", "3", "--far", "3"], folder)
     for name in os.listdir(os.path.join(folder, "parts")):
         undisturbed([BB, "settle", os.path.join("parts", name), "--far", "3"], folder)
-    return written(turns, chance, folder, [BB, "join", "parts", "--ledger", "OUT"], None)
+    return written(turns, chance, folder, [BB, "join", "parts", "--ledger", "OUT", "--replace"], None)
 
 
 def appended(turns, chance, folder, command, lines):

@@ -10,11 +10,13 @@ import os
 import pty
 import re
 import shutil
+import signal
 import socket
 import subprocess
 import sys
 import tempfile
 import threading
+import time
 
 TOP = os.path.dirname(os.path.dirname(os.path.abspath(__file__)))
 sys.path.insert(0, os.path.join(TOP, "bench"))
@@ -170,6 +172,28 @@ def half_lines():
             sys.exit(f"losses: walk --save behind {held!r}: {lines[:2]!r}")
 
 
+def two_walks():
+    """Of two walks that save into one file at once the second ends, and the file is as the first leaves it."""
+    room = Room({})
+    Room.tried += 2
+    words = [PROGRAM, "walk", "4", "--hard", "--dear", "0", "--save", "saved"]
+    subprocess.run(words, stdout=subprocess.DEVNULL, stderr=subprocess.DEVNULL, cwd=room.folder, check=True)
+    due = room.held().pop("saved")
+    os.remove(room.at("saved"))
+    first = subprocess.Popen(words, stdout=subprocess.DEVNULL, stderr=subprocess.DEVNULL, cwd=room.folder)
+    while not os.path.exists(room.at("saved")) or not os.path.getsize(room.at("saved")):
+        time.sleep(0.01)
+    first.send_signal(signal.SIGSTOP)
+    second = subprocess.run(words, capture_output=True, cwd=room.folder, check=False)
+    first.send_signal(signal.SIGCONT)
+    if second.returncode != 4 or second.stdout or not second.stderr.startswith(REFUSED[3]):
+        sys.exit(f"losses: a second walk that saves there: {second!r}")
+    if first.poll() is not None:
+        sys.exit("losses: the first walk had ended before the second began")
+    if first.wait() != 0 or room.held()["saved"] != due:
+        sys.exit("losses: a walk didn't save what it saves alone")
+
+
 def lines_of_their_own():
     """On a terminal that shows both streams a report isn't glued to the line that tells how far the reading is."""
     packed = os.path.join(TOP, "examples", "four-states.ledger.xz")
@@ -182,6 +206,14 @@ def lines_of_their_own():
     reader, writer = pty.openpty()
     ran = subprocess.Popen([PROGRAM, "report", "four"], stdin=subprocess.DEVNULL, stdout=writer, stderr=writer, cwd=room.folder)
     os.close(writer)
+    # It is held while it reads, so that it takes more than a second on any computer.
+    files, four = f"/proc/{ran.pid}/fd", os.path.realpath(room.at("four"))
+    while ran.poll() is None and four not in [os.path.realpath(os.path.join(files, name)) for name in os.listdir(files)]:
+        time.sleep(0.001)
+    time.sleep(0.05)
+    ran.send_signal(signal.SIGSTOP)
+    time.sleep(1.2)
+    ran.send_signal(signal.SIGCONT)
     shown = b""
     try:
         while piece := os.read(reader, 4096):
@@ -338,7 +370,7 @@ def by_links():
 
 
 def main():
-    for play in (unless_replaced, half_lines, lines_of_their_own, pipes, without_leave, places_to_listen, by_links):
+    for play in (unless_replaced, half_lines, two_walks, lines_of_their_own, pipes, without_leave, places_to_listen, by_links):
         play()
     for folder in Room.folders:
         shutil.rmtree(folder, ignore_errors=True)

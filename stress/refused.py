@@ -74,7 +74,7 @@ COMMANDS = [
     (["check", "--why"], RECORDS, {}, None),
     (["show", "--fold"], b"1RB1LB_1LA---\nx\n", {}, None),
     (["tables", "--normal"], TABLES + b"seen: 1LB1RB_1RA---, here\n", {}, None),
-    (["draw", "--png"], b"1RB1LB_1LA---\n", {}, None),
+    (["draw"], b"1RB1LB_1LA---\n", {}, None),
     (["run", "1", "--ledger", "one", "--sync"], b"", {"one": ONE}, "one"),
     (["run", "four.ledger"], b"", {}, None),
     (["report", "one"], b"", {"one": ONE}, None),

@@ -4,8 +4,8 @@
 usage: stress/shown.py BB [COUNT] [SEED]
 
 Each table is run here on a dictionary of cells, and each of its lines made of that: the times that are asked for, the last one of a
-run that halts, the tape from its first to its last one or the head, or, with --align, all cells that the head visits. A part of
-`./ci`; ends with 1 at the first table that is shown otherwise. How words are folded is a matter of the cases.
+run that halts, the tape from its first to its last one or the head, with --fold with its words folded, or, with --align, all cells
+that the head visits. A part of `./ci`; ends with 1 at the first table that is shown otherwise.
 """
 import random
 import subprocess
@@ -38,16 +38,37 @@ def configurations(table, last):
     return came, None
 
 
-def line_of(came, time, frame):
+def folded(cells):
+    """Cells with each word folded that stands three times or more, the shortest first, and has 16 symbols at most."""
+    text, before = "", 0
+    while cells:
+        word, count = cells[0], 1
+        for length in range(1, min(16, len(cells)) + 1):
+            often = 1
+            while cells.startswith(cells[:length], often * length):
+                often += 1
+            if often >= 3:
+                word, count = cells[:length], often
+                break
+        cells = cells[count * len(word):]
+        text += " " if before and (before > 1 or count > 1) else ""
+        text += word if count == 1 else f"{word if len(word) == 1 else f'({word})'}^{count}"
+        before = count
+    return text
+
+
+def line_of(came, time, frame, fold):
     """The line of a time; `frame` is the first and the last cell that each line has, or none."""
     state, head, ones = came[time]
     first, last = frame or (min([head, *ones]), max([head, *ones]))
     blank = "." if frame else "0"
-    cells = "".join((state + ">" if cell == head else "") + ("1" if cell in ones else blank) for cell in range(first, last + 1))
-    return cells
+    left, right = ("".join("1" if cell in ones else blank for cell in part) for part in (range(first, head), range(head, last + 1)))
+    if fold:
+        return f"{folded(left)} {state}> {folded(right)}".lstrip()
+    return f"{left}{state}>{right}"
 
 
-def shown(table, start, steps, every, align):
+def shown(table, start, steps, every, form):
     """What is printed of it."""
     asked = start + steps
     came, halts = configurations(table, asked)
@@ -57,11 +78,11 @@ def shown(table, start, steps, every, align):
         times.append(last)
     frame = None
     width = 0
-    if align:
+    if form == ["--align"]:
         heads = [head for _, head, _ in came]
         frame = (min(heads), max(heads))
         width = len(str(asked))
-    lines = [table] + [f"{time:>{width}}  {line_of(came, time, frame)}" for time in times]
+    lines = [table] + [f"{time:>{width}}  {line_of(came, time, frame, form == ['--fold'])}" for time in times]
     if halts:
         lines.append(f"halts {halts[0]} ones {halts[1]}")
     return "\n".join(lines) + "\n"
@@ -73,10 +94,11 @@ def main():
     dice = random.Random(int(sys.argv[3]) if len(sys.argv) > 3 else 1)
     for _ in range(count):
         table = drawn(dice)
-        start, steps, every, align = dice.randint(0, 30), dice.randint(0, 60), dice.randint(1, 7), dice.random() < 0.5
-        words = ["show", "--from", str(start), "--steps", str(steps), "--every", str(every)] + ["--align"] * align
+        start, steps, every = dice.randint(0, 30), dice.randint(0, 60), dice.randint(1, 7)
+        form = dice.choice([[], ["--fold"], ["--align"]])
+        words = ["show", "--from", str(start), "--steps", str(steps), "--every", str(every), *form]
         ran = subprocess.run([program, *words], input=table.encode(), capture_output=True, check=False)
-        due = shown(table, start, steps, every, align)
+        due = shown(table, start, steps, every, form)
         if (ran.stdout.decode(), ran.returncode) != (due, 0):
             sys.exit(f"shown: {table} {' '.join(words)}:\n{ran.stdout.decode()}and not\n{due}")
     print(f"shown: {count} tables, each as a plain run of it")

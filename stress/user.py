@@ -25,7 +25,7 @@ TOP = os.path.dirname(os.path.dirname(os.path.abspath(__file__)))
 sys.path.insert(0, os.path.join(TOP, "bench"))
 from program import PROGRAM  # noqa: E402
 
-WIDEST = 144
+WIDEST = 120
 # Enough answers that a pipe doesn't hold them.
 MANY = 20_000
 # Longer than the package takes on a machine that is busy, in seconds.
@@ -35,7 +35,7 @@ PACKED = [
     "bin/bb", "share/man/man1/bb.1.gz", "share/bash-completion/completions/bb", "share/zsh/vendor-completions/_bb",
     "share/fish/vendor_completions.d/bb.fish", "share/doc/busy-beaver/README.md", "share/doc/busy-beaver/docs/FORMATS.md",
     "share/doc/busy-beaver/examples/four-states.ledger.xz", "share/busy-beaver/examples/five-states.known",
-    "share/busy-beaver/contrib/tree.sh", "share/busy-beaver/contrib/rules", "share/busy-beaver/contrib/import/dfa.py", "share/busy-beaver/contrib/import/README.md",
+    "share/busy-beaver/contrib/tree.sh", "share/busy-beaver/contrib/rules", "share/busy-beaver/contrib/png", "share/busy-beaver/contrib/import/dfa.py", "share/busy-beaver/contrib/import/README.md",
 ]
 
 # Each line of a list, and the tables in it, as they are printed.

@@ -1,9 +1,9 @@
 // Plays the judge's page in a browser without a screen: judge/web/browse.mjs PAGE [FOLDER [PART ..]]. It pastes a record, follows
-// links, goes through the page by the keyboard alone, drops the ledger of four states, and looks at the page dark and 390 pixels
-// wide; into FOLDER it puts pictures of what was seen. PARTs are names of the functions below, if not all. It needs chromium and xz.
+// links, goes through the page by the keyboard alone, drops records of each kind, many and long ones, what is no list or is markup
+// elsewhere, and the ledgers of three and four states, and looks at the page dark and 390 pixels wide; into FOLDER it puts pictures of what was seen. PARTs are names of the functions below, if not all. It needs chromium and xz.
 // Ends with 1 where the page shows something else, or asks for anything from elsewhere.
 import {execFileSync, spawn} from 'node:child_process';
-import {mkdtempSync, rmSync, writeFileSync} from 'node:fs';
+import {mkdtempSync, readFileSync, rmSync, writeFileSync} from 'node:fs';
 import {tmpdir} from 'node:os';
 import {join, resolve} from 'node:path';
 import {pathToFileURL} from 'node:url';
@@ -136,6 +136,37 @@ async function drops() {
   await until('a search in them', `!${shown}.includes('858,909 of 858,909') && ${shown}.includes(' of 858,909')`);
 }
 
+// A record of each kind, right and changed in one place; many records; what is no list; what is markup elsewhere.
+async function amounts() {
+  const say = "document.getElementById('said').textContent", file = join(folder, 'records');
+  const drop = async text => {
+    writeFileSync(file, text);
+    const data = {items: [], files: [file], dragOperationsMask: 1};
+    for (const type of ['dragEnter', 'dragOver', 'drop']) await send('Input.dispatchDragEvent', {type, x: 200, y: 200, data});
+  };
+  const held = execFileSync('xz', ['-dc', EXAMPLES + 'four-states.ledger.xz'], {maxBuffer: 2 ** 30}).toString().split('\n').slice(1);
+  const others = ['five-states.known', 'known.txt'].map(name => readFileSync(EXAMPLES + name, 'latin1').split('\n')).flat();
+  const rule = '1RA--- R - 1^0a1A> 0 l0E.1 1a1 r0B.0.1,1,l0S.1.1.0a1';
+  const kinds = [...new Map([rule, ...others, ...held].map(line => [line.split(' ')[1], line])).entries()].filter(([kind]) => /^[A-Z]$/.test(kind) && kind !== 'U');
+  await open();
+  await drop(kinds.map(([, line]) => line).join('\n'));
+  await until(`a record of each of ${kinds.map(([kind]) => kind).join('')}`, `${say}.includes('never ${kinds.length - 1}') && ${say}.includes('halts 1') && !${say}.includes('refused')`, 300);
+  await drop(kinds.map(([, line]) => line.replace(/.$/, last => last === '1' ? '2' : '1')).join('\n'));
+  await until('the same with another last letter', `${say}.includes('refused') && !${say}.includes('never ${kinds.length - 1}')`, 300);
+  await drop(held.filter(line => / [CT] /.test(line)).slice(0, 10000).join('\n'));
+  await until('10,000 records', `${say} === 'never 10,000'`, 300);
+  await drop(readFileSync(EXAMPLES + 'three-states.ledger'));
+  await until('the ledger of three states', `${shown}.includes('So S(3) = 21 and Σ(3) = 6')`, 300);
+  await drop('it is no list\n'.repeat(750000));
+  await until('ten megabytes that are no list', `/without a table/.test(${say})`, 300);
+  for (const bytes of [49152, 49153]) {
+    await drop('1RB1LB_1LA--- N 3 ' + '0'.repeat(bytes - 18));
+    await until(`a record of ${bytes} bytes`, `${say}.startsWith('refused')`);
+  }
+  await drop('<img src=x onerror="window.hit=1"> 1RA--- T 0 1 R<script>window.hit=1</script>\n1RA--- T 0 1 R');
+  await until('what is markup elsewhere', `${shown}.includes('1RA---') && !window.hit && !document.querySelector('#results img, #results script')`, 60);
+}
+
 async function byKeyboard() {
   await open();
   await evaluate('document.body.focus()');
@@ -173,7 +204,7 @@ async function main() {
   ({sessionId} = await send('Target.attachToTarget', {targetId, flatten: true}));
   for (const domain of ['Page', 'Runtime', 'Network']) await send(`${domain}.enable`);
   await send('Emulation.setDeviceMetricsOverride', {width: 1100, height: 1200, deviceScaleFactor: 1, mobile: false});
-  for (const part of [pastes, links, byKeyboard, drops, otherwise]) {
+  for (const part of [pastes, links, byKeyboard, amounts, drops, otherwise]) {
     if (wanted.length === 0 || wanted.includes(part.name)) await part();
   }
   const others = asked.filter(url => !/^(about|blob|data):/.test(url) && url.split('#')[0] !== address);

@@ -32,6 +32,7 @@ backward_kind = record {
     made_for = λ n. Unit {0};
     within = e.depth ≤ depth_limit;
     wide = λ p. IsTooWide p e.depth;
+    overflows = λ p. ⊥;
     stands = λ p. IsBackward p.states (entry_of p) e.depth;
     unseen = λ p. ⊥;
     takes_memory = λ p. e.depth ≤ depth_limit;

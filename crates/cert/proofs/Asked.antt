@@ -9,12 +9,12 @@ use Rattle.cert.specs.Claim.{Claim, HaltsClaim, NeverClaim, NoClaim, ending_by, 
 use Rattle.cert.specs.Certified.{IsPairOf}
 use Rattle.cert.specs.Kinds.{owned_claim}
 use Rattle.cert.specs.declared.decided.Decided.{Decided}
-use Rattle.cert.specs.Asking.{ShowsVerdict, ComesOfClaim, Answered}
+use Rattle.cert.specs.Asking.{ShowsVerdict, IsPassedOver, ComesOfClaim, Answered}
 
 pub one_taken : (p : Packed) (given : Option Claim) (o : Option Decided) (d : Decided) → o ≡ Some d → ComesOfClaim p given o → ShowsVerdict p given × (given ≡ Some (owned_claim d.record.certificate))
 one_taken p given o d is one = let made = subst (ComesOfClaim p given) is one in (subst (ShowsVerdict p) (sym made.1) made.0.2, made.1)
 
-pub one_left : (p : Packed) (given : Option Claim) (o : Option Decided) → o ≡ None → ComesOfClaim p given o → ShowsVerdict p given → ⊥
+pub one_left : (p : Packed) (given : Option Claim) (o : Option Decided) → o ≡ None → ComesOfClaim p given o → IsPassedOver p given
 one_left p given o is one = subst (ComesOfClaim p given) is one
 
 -- a claim that a table never halts, where it is certified
@@ -37,7 +37,7 @@ module _ {F : Type 0} (gives : F → Option Claim → Type 0) (p : Packed) where
   pub asked_none : (all : List F) → IsAskedTo 0 all all
   asked_none all = record { each = λ c a. a }
 
-  pub asked_more : (k : ℕ) (now all : List F) (d v : F) (o : Option Claim) → IsAskedTo k now all → k < length now → gives (get_or now k d) o → (ShowsVerdict p o → ⊥) → IsAskedTo (k + 1) (set now k v) all
+  pub asked_more : (k : ℕ) (now all : List F) (d v : F) (o : Option Claim) → IsAskedTo k now all → k < length now → gives (get_or now k d) o → IsPassedOver p o → IsAskedTo (k + 1) (set now k v) all
   unfolding Answered
   asked_more k now all d v o asked less given none = record {
     each = λ c rest. asked.each c (subst (λ fs. Answered gives p fs c) (sym (drop-cons now k d less)) (o, given, inr (none, subst (λ fs. Answered gives p fs c) (drop-set-lt (k + 1) now k v (omega arith) ∙ ap (λ i. drop i now) (let e : k + 1 ≡ suc k = omega arith in e)) rest)));

@@ -1,23 +1,34 @@
--- What is refused isn't certified.
-use Rattle.std.proofs.Common.{◌≡◌, ◌≢◌, ◌≤◌, refl}
+-- What is refused isn't certified, or its check may overflow.
+use Rattle.std.proofs.Common.{◌≡◌, ◌≢◌, ◌≤◌, refl, inl, inr}
 use Rattle.machine_text.specs.Packed.{Packed}
 use Rattle.run.specs.declared.halts_in.HaltsIn.{HaltsIn}
 use Rattle.run.specs.Halts.{HaltsAsClaimed}
 use Rattle.run.specs.Limits.{halt_step_limit}
 use Rattle.kind_evidence.specs.declared.verdicts.Refused.{Refused}
 use Rattle.kind_evidence.specs.declared.verdicts.Refused.TheVariants.{Fails, TooLong, TooWide, NotSeen, NoMemory}
-use Rattle.cert.specs.Claim.{Recorded, HaltsClaim}
+use Rattle.cert.specs.Claim.{Recorded, HaltsClaim, MayOverflow}
 use Rattle.cert.specs.Kinds.{recorded}
 use Rattle.cert.specs.declared.record.Record.{Record}
 use Rattle.cert.specs.declared.certificate.Certificate.TheVariants.{Halts}
 use Rattle.cert.specs.Certified.{IsCertified, IsRefusedBy, IsUnfitBy}
 
-pub refused_or_certified : (f : Refused) (r : Recorded) → IsUnfitBy f r → IsCertified r → ⊥
-refused_or_certified Fails r refused certified = refused.2 certified.stands
-refused_or_certified TooLong r refused certified = refused certified.within
-refused_or_certified TooWide r refused certified = certified.narrow refused.1
-refused_or_certified NotSeen r refused certified = refused
-refused_or_certified NoMemory r refused certified = refused
+pub refused_or_certified : (f : Refused) (r : Recorded) → IsUnfitBy f r → IsCertified r → MayOverflow r.claim r.table
+refused_or_certified Fails r refused certified = absurd (refused.2 certified.stands)
+refused_or_certified TooLong r refused certified = absurd (refused certified.within)
+refused_or_certified TooWide r refused certified = elim refused.1 [ inl wide ↦ absurd (certified.narrow wide) | inr overflows ↦ overflows ]
+refused_or_certified NotSeen r refused certified = absurd refused
+refused_or_certified NoMemory r refused certified = absurd refused
+
+-- a refusal that isn't for want of memory, nor unseen, makes a record unfit
+unfit_by : (f : Refused) (r : Recorded) → f ≢ NotSeen → f ≢ NoMemory → IsRefusedBy f r → IsUnfitBy f r
+unfit_by Fails r seen memory refused = refused
+unfit_by TooLong r seen memory refused = refused
+unfit_by TooWide r seen memory refused = refused
+unfit_by NotSeen r seen memory refused = absurd (seen refl)
+unfit_by NoMemory r seen memory refused = absurd (memory refl)
+
+pub refused_otherwise : (f : Refused) (r : Recorded) → f ≢ NotSeen → f ≢ NoMemory → IsRefusedBy f r → IsCertified r → MayOverflow r.claim r.table
+refused_otherwise f r seen memory refused = refused_or_certified f r (unfit_by f r seen memory refused)
 
 -- a halting table's record is certified, or refused, as its check says
 pub halts_certified : (r : Record) (e : HaltsIn) → r.certificate ≡ Halts e → e.steps ≤ halt_step_limit → HaltsAsClaimed e r.table → IsCertified (recorded r)

@@ -1,5 +1,5 @@
 -- When a record is certified, why its certificate is refused, and what it shows where it stands.
-use Rattle.std.specs.Prelude.{◌≡◌, ℕ, ◌<◌, Option, Some, None}
+use Rattle.std.specs.Prelude.{◌≡◌, ℕ, ◌<◌, ◌⊎◌, Option, Some, None}
 use Rattle.machine_text.specs.Packed.{Packed, entry_of}
 use Rattle.machine_text.specs.declared.transition.Pair.{Pair}
 use Rattle.law_turing.specs.Halting.{HaltsOn}
@@ -7,7 +7,7 @@ use Rattle.kind_evidence.specs.declared.verdicts.Ending.{Ending}
 use Rattle.kind_evidence.specs.declared.verdicts.Ending.TheVariants.{Halts, Never}
 use Rattle.kind_evidence.specs.declared.verdicts.Refused.{Refused}
 use Rattle.kind_evidence.specs.declared.verdicts.Refused.TheVariants.{Fails, TooLong, TooWide, NotSeen, NoMemory}
-use Rattle.cert.specs.Claim.{Recorded, IsWithin, IsWide, MayGoUnseen, Stands, ending_by, shown_by}
+use Rattle.cert.specs.Claim.{Recorded, IsWithin, IsWide, MayOverflow, MayGoUnseen, Stands, ending_by, shown_by}
 use Rattle.cert.specs.declared.judgement.Judged.{Judged}
 
 -- what is claimed stands, within the limits; where nothing is claimed nothing has to
@@ -17,15 +17,15 @@ pub record IsCertified (r : Recorded) : Type 0 where
   pub stands : Stands r.claim r.table
 
 -- why a claim is refused: it doesn't stand, it asks for more than its limit, or for more paths than may be kept; or its
--- check ended without having seen whether it stands
+-- check ended without having seen whether it stands, at a number that is too large or otherwise
 abbrev pub IsRefusedBy : Refused → Recorded → Type 0
 IsRefusedBy Fails r = IsWithin r.claim × (IsWide r.claim r.table → ⊥) × (Stands r.claim r.table → ⊥)
 IsRefusedBy TooLong r = IsWithin r.claim → ⊥
-IsRefusedBy TooWide r = IsWithin r.claim × IsWide r.claim r.table
+IsRefusedBy TooWide r = IsWithin r.claim × (IsWide r.claim r.table ⊎ MayOverflow r.claim r.table)
 IsRefusedBy NotSeen r = MayGoUnseen r.claim r.table
 IsRefusedBy NoMemory r = ⊥
 
--- a refusal that says something of the claim: it isn't certified
+-- a refusal by which a record is unfit: it isn't certified, or its check may overflow
 abbrev pub IsUnfitBy : Refused → Recorded → Type 0
 IsUnfitBy Fails r = IsRefusedBy Fails r
 IsUnfitBy TooLong r = IsRefusedBy TooLong r

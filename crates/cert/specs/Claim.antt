@@ -31,6 +31,7 @@ meaning NoClaim = record {
   made_for = λ n. Unit {0};
   within = Unit {0};
   wide = λ p. ⊥;
+  overflows = λ p. ⊥;
   stands = λ p. Unit {0};
   unseen = λ p. ⊥;
   takes_memory = λ p. ⊥;
@@ -65,6 +66,10 @@ IsWithin c = (meaning c).within
 
 abbrev pub IsWide : Claim → Packed → Type 0
 IsWide c p = (meaning c).wide p
+
+-- its check of the table may end at a number that is too large, which says nothing of whether it is so
+abbrev pub MayOverflow : Claim → Packed → Type 0
+MayOverflow c p = (meaning c).overflows p
 
 abbrev pub Stands : Claim → Packed → Type 0
 Stands c p = (meaning c).stands p

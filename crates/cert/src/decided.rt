@@ -1,6 +1,6 @@
 // A record that is certified, with what was judged.
 ghost use Rattle.std.specs.Prelude.{◌≡◌, Some, IfOk, MatchOption};
-ghost use Rattle.cert.specs.Asking.{ComesOfClaim, ShowsVerdict};
+ghost use Rattle.cert.specs.Asking.{ComesOfClaim, IsPassedOver, ShowsVerdict};
 ghost use Rattle.cert.specs.Certified.{IsCertified, IsShownBy};
 ghost use Rattle.cert.specs.Claim.{ending_by};
 ghost use Rattle.cert.specs.Kinds.{owned_claim, owned_recorded};
@@ -79,7 +79,7 @@ impl Decided {
 
 // What a record shows, if it claims something and that stands.
 fn judged_of(alloc: Global, r: &OwnedRecord) -> Result<Option<Judged>, NoMemory>
-    ensures { IfOk result (λ o. MatchOption o (ShowsVerdict r.now.table (Some (owned_claim r.now.certificate)) → ⊥)
+    ensures { IfOk result (λ o. MatchOption o (IsPassedOver r.now.table (Some (owned_claim r.now.certificate)))
         (λ judged. IsShownBy (owned_recorded r.now) judged
         × ShowsVerdict r.now.table (Some (owned_claim r.now.certificate)))) }
 {

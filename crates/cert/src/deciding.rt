@@ -13,7 +13,7 @@ use kind_evidence::NoMemory;
 use machine_text::Table;
 use std::alloc::Global;
 
-/// A record of the table with the first certificate that stands of those that the finders give, asked in
+/// A record of the table with the first certificate that is accepted of those that the finders give, asked in
 /// their order; undecided where none does. Each certificate is judged, whatever finder gave it, and none
 /// that is refused or claims nothing is taken. Memory that is refused to a finder or to a judgement is
 /// passed on; then the finders' scratch may have changed.

@@ -1,5 +1,5 @@
 // Whether a record's certificate stands.
-ghost use Rattle.std.specs.Prelude.{◌≡◌, ◌≢◌, Ok, Err, None, Some, OnOk, IfOk, IfErr};
+ghost use Rattle.std.specs.Prelude.{◌≡◌, ◌≢◌, ◌⊎◌, Ok, Err, None, Some, OnOk, IfOk, IfErr};
 ghost use Rattle.cert.specs.Claim.{NoClaim, TakesMemory, ending_by, shown_by};
 ghost use Rattle.cert.specs.Certified.{IsCertified, IsRefusedBy, IsPairOf};
 ghost use Rattle.cert.specs.Kinds.{claim_of, recorded};
@@ -21,8 +21,9 @@ pub struct Judged {
 
 /// Checks a record's certificate: the verdict that it shows of the table, or none where nothing is claimed.
 /// Neither that nor the check of position sets or of automata of few states takes memory. `Fails` where it doesn't
-/// stand, `TooLong` and `TooWide` where it asks for more than the limits of its kind, `NotSeen` where its check ends without an answer, `NoMemory` where
-/// memory is refused.
+/// stand, `TooLong` and `TooWide` where it asks for more than the limits of its kind, `NotSeen` where its check ends
+/// without an answer, `NoMemory` where memory is refused. Counted automata are `TooWide` where their numbers overflow,
+/// which says nothing of whether they stand.
 pub fn judge(alloc: Global, r: &Record) -> Result<Option<Verdict>, Refused>
     ensures ok { IfOk result (λ v. IsCertified (recorded r.now)
         × (v ≡ shown_by (claim_of r.now.certificate) r.now.table)) }
@@ -85,7 +86,7 @@ fn checked<E: Evidence>(evidence: &E, alloc: Global, t: &Table) -> Result<Judged
         × ((E.meaning evidence.now).wide t.now → ⊥) × ((E.meaning evidence.now).stands t.now → ⊥) }
     ensures long { result ≡ Err Refused.TooLong → (E.meaning evidence.now).within → ⊥ }
     ensures wide { result ≡ Err Refused.TooWide → (E.meaning evidence.now).within
-        × (E.meaning evidence.now).wide t.now }
+        × ((E.meaning evidence.now).wide t.now ⊎ (E.meaning evidence.now).overflows t.now) }
     ensures unseen { result ≡ Err Refused.NotSeen → (E.meaning evidence.now).unseen t.now }
     ensures memory { result ≡ Err Refused.NoMemory → (E.meaning evidence.now).takes_memory t.now }
 {

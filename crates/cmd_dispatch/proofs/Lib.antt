@@ -1,3 +1,4 @@
+mod Admitting
 mod Calling
 mod Joining
 mod Keeping

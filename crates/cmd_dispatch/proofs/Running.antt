@@ -1,5 +1,5 @@
 -- What runs and listens over a ledger, or over none.
-use Rattle.std.proofs.Common.{◌≡◌, ◌∙◌, refl, ℕ, List, Option, Some, None, Result, Ok, Err, length}
+use Rattle.std.proofs.Common.{◌≡◌, ℕ, List, Option, Some, None, Result, Ok, Err, inl, inr, length}
 use Rattle.std.specs.declared.io.Error.{Error}
 use Rattle.wire.specs.Fulfilled.{Answering}
 use Rattle.peers.specs.Connections.{Taking}
@@ -15,8 +15,7 @@ use Rattle.cmd_options.specs.declared.options.Settling.{Settling}
 use Rattle.cmd_options.specs.declared.outcome.Outcome.{Outcome}
 use Rattle.cmd_dispatch.specs.Ends.{OnceLeaving, Said}
 use Rattle.cmd_dispatch.specs.Kept.{IsNothing, IsOpenedIn, LeavesUnbegun}
-use Rattle.cmd_dispatch.specs.Serves.{ServesKept, ServesOver}
-use Rattle.cmd_dispatch.specs.Trees.{Runs, RunsOver, RunsWith}
+use Rattle.cmd_dispatch.specs.Nodes.{IsConductOf, Runs, RunsOver, RunsWith, ServesAsked, ServesBegun, ServesKept, ServesOver}
 use Rattle.cmd_dispatch.proofs.Keeping.{written}
 
 pub ran_kept : {F N : Type 0} (replies : Answering N) (remaining : F → Option (List ℕ)) (tells later : SameFile)
@@ -34,15 +33,15 @@ ran_kept replies remaining tells later old opened new file p workers held before
 }
 
 pub ran_alone : {F N : Type 0} (replies : Answering N) (remaining : F → Option (List ℕ)) (tells : SameFile)
-    (old : Shelf) (p : Settling) (workers : List N) (held : Result (Opened F) Error)
-    (before after : Option (List ℕ)) (s : Said) (o : Outcome) → IsNothing remaining held
+    (old new : Shelf) (p : Settling) (workers : List N) (held : Result (Opened F) Error)
+    (before after : Option (List ℕ)) (s : Said) (o : Outcome) → new ≡ old → IsNothing remaining held
     → RunsOver replies remaining p workers held before after s o
-    → RunsWith replies remaining tells old old p workers None s o
-ran_alone replies remaining tells old p workers held before after s o is runs = record {
+    → RunsWith replies remaining tells old new p workers None s o
+ran_alone replies remaining tells old new p workers held before after s o same is runs = record {
   held = held;
   before = before;
   after = after;
-  keeps = (refl, is);
+  keeps = (same, is);
   runs = runs;
 }
 
@@ -70,14 +69,24 @@ served_kept remaining takes passed tells later shelf opened new_shelf file b l c
 }
 
 pub served_alone : {F G : Type 0} (remaining : F → Option (List ℕ)) (takes : G → Taking) (passed : G → Traffic)
-    (tells : SameFile) (shelf : Shelf) (b : Beginning) (l : Listening) (conduct : Conduct) (old new : G)
+    (tells : SameFile) (shelf new_shelf : Shelf) (b : Beginning) (l : Listening) (conduct : Conduct) (old new : G)
     (held : Result (Opened F) Error) (before after : Option (List ℕ)) (s : Said) (ended : Result Outcome Ended)
-    → IsNothing remaining held → ServesOver remaining takes passed b l conduct old new held before after s ended
-    → ServesKept remaining takes passed tells shelf shelf b None l conduct old new s ended
-served_alone remaining takes passed tells shelf b l conduct old new held before after s ended is serves = record {
+    → new_shelf ≡ shelf → IsNothing remaining held
+    → ServesOver remaining takes passed b l conduct old new held before after s ended
+    → ServesKept remaining takes passed tells shelf new_shelf b None l conduct old new s ended
+served_alone remaining takes passed tells shelf new_shelf b l conduct old new held before after s ended same is serves = record {
   held = held;
   before = before;
   after = after;
-  keeps = (refl, is);
+  keeps = (same, is);
   serves = serves;
 }
+
+pub served : {F G : Type 0} (remaining : F → Option (List ℕ)) (takes : G → Taking) (passed : G → Traffic)
+    (tells : SameFile) (shelf new_shelf : Shelf) (b : Beginning) (ledger : Option LedgerFile) (l : Listening)
+    (conduct : Conduct) (old new : G) (s : Said) (ended : Result Outcome Ended) → IsConductOf l conduct
+    → ServesBegun remaining takes passed tells shelf new_shelf b ledger l conduct old new s ended
+    → ServesAsked remaining takes passed tells shelf new_shelf b ledger l s ended
+served remaining takes passed tells shelf new_shelf b ledger l conduct old new s ended is (inl never) = inl never
+served remaining takes passed tells shelf new_shelf b ledger l conduct old new s ended is (inr serves) =
+    inr (old, new, conduct, is, serves)

@@ -1,5 +1,5 @@
 -- What is done that is asked for: of each command what the function says that is called for it.
-use Rattle.std.specs.Prelude.{◌≡◌, ◌⊎◌, ℕ, List, Option, Some, None, Result, Ok, Err}
+use Rattle.std.specs.Prelude.{◌≡◌, ◌⊎◌, ℕ, List, Option, Some, None, Result}
 use Rattle.machine_text.specs.Packed.{Packed}
 use Rattle.cert.specs.Claim.{Recorded}
 use Rattle.peers.specs.Connections.{Taking}
@@ -16,14 +16,13 @@ use Rattle.cmd_options.specs.declared.outcome.Outcome.{Outcome}
 use Rattle.cmd_ledgers.specs.Retry.{AtSomeTime}
 use Rattle.cmd_nodes.specs.Listened.{Traffic}
 use Rattle.find_search.specs.Asked.{known_in}
-use Rattle.cmd_dispatch.specs.Ends.{Input, Said, Always, OnceKept, OnceLeaving, OnceSaved, output_of}
+use Rattle.cmd_dispatch.specs.declared.host.Host.{Host}
+use Rattle.cmd_dispatch.specs.Ends.{Input, Said, Always, OnceKept, OnceLeaving, OnceSaved}
 use Rattle.cmd_dispatch.specs.Lines.{DoesCheck, DoesDecide, DoesExplain, DoesShow, DoesList, Draws}
 use Rattle.cmd_dispatch.specs.Kept.{ChangesSaved, LeavesUnbegun}
 use Rattle.cmd_dispatch.specs.Ledgers.{Locking, Carries, JoinsAsked, LooksUp, Mends, MergesAsked, ReportsAsked, Retries, Settles, Splits}
-use Rattle.cmd_dispatch.specs.Trees.{Coordinates, Runs, WalksBy}
-use Rattle.cmd_dispatch.specs.Serves.{ServesAsked, ServesPart}
+use Rattle.cmd_dispatch.specs.Nodes.{Coordinates, Runs, ServesAsked, ServesPart, WalksBy, Works}
 use Rattle.cmd_dispatch.specs.Pages.{Pages}
-use Rattle.cmd_dispatch.specs.Works.{Works}
 
 -- what commands meet: files, by what may be told of two paths, what stands at each, what may come of locking one, and how
 -- what is read of one is known; what deciders may answer, one alone, one that is counted, and one whose answers are saved;
@@ -99,25 +98,29 @@ DoesCommand m (Page paging) old new i s ended = LeavesFiles old new (Pages (m.ho
 DoesCommand m (Report reporting) old new i s ended =
     LeavesFiles old new (Always (ReportsAsked (m.holds old) reporting i s) ended)
 
--- and how it ends: what was refused of known records is said behind
-pub record DoesKnowing {H K D C V N F G W : Type 0} (m : Met H K D C V N F G W) (asked : Options) (old new : H)
-    (i : Input) (s : Said) (o : Outcome) : Type 0 where
+-- a command, from what it meets to what it leaves, and how it ends
+abbrev pub Doing : Type 0 → Type 1
+Doing M = Options → M → M → Result Outcome Ended → Type 0
+
+-- what is asked for is done, and how it ends is told; what was refused of known records is said before
+pub record DoesKnowing {S H R W E : Type 0} (does : Doing (Host S H R W E)) (contents : E → Option (List ℕ))
+    (asked : Options) (old new : Host S H R W E) (o : Outcome) : Type 0 where
   pub ended : Result Outcome Ended
+  pub faults : E
   pub lines : Option (List ℕ)
-  pub new_lines : Option (List ℕ)
-  pub does : DoesCommand m asked old new i (output_of s.held s.new_held s.faults lines) ended
-  pub unsaid : known_in asked ≡ None → new_lines ≡ lines
-  pub told : EndsTold ended new_lines s.new_faults o
+  pub done : does asked old (record new { faults = faults }) ended
+  pub unsaid : known_in asked ≡ None → lines ≡ contents faults
+  pub told : EndsTold ended lines (contents new.faults) o
 
 -- where records that were found elsewhere are asked for and can't be read, nothing is done
-pub record KnowsNothing {H : Type 0} (asked : Options) (old new : H) (i : Input) (s : Said) (o : Outcome) : Type 0 where
+pub record KnowsNothing {S H R W E : Type 0} (contents : E → Option (List ℕ)) (asked : Options)
+    (old new : Host S H R W E) (o : Outcome) : Type 0 where
   pub wanted : known_in asked ≡ None → ⊥
-  pub files : new ≡ old
-  pub unread : i.new_read ≡ i.read
-  pub unsaid : s.new_held ≡ s.held
+  pub undone : new ≡ record old { faults = new.faults }
   pub ended : Ended
-  pub told : IsTold ended s.faults s.new_faults o
+  pub told : IsTold ended (contents old.faults) (contents new.faults) o
 
-abbrev pub DoesAsked : {H K D C V N F G W : Type 0} → Met H K D C V N F G W → Options → H → H → Input → Said → Outcome
-    → Type 0
-DoesAsked m asked old new i s o = DoesKnowing m asked old new i s o ⊎ KnowsNothing asked old new i s o
+abbrev pub DoesAsked : {S H R W E : Type 0} → Doing (Host S H R W E) → (E → Option (List ℕ)) → Options
+    → Host S H R W E → Host S H R W E → Outcome → Type 0
+DoesAsked does contents asked old new o =
+    DoesKnowing does contents asked old new o ⊎ KnowsNothing contents asked old new o

@@ -7,14 +7,15 @@ use Rattle.cmd_options.specs.declared.ended.Ended.TheVariants.{Ledger, NoMemory,
 use Rattle.cmd_options.specs.declared.outcome.Outcome.{Outcome}
 use Rattle.cmd_options.specs.declared.outcome.Outcome.TheVariants.{Failed}
 use Rattle.cmd_lines.specs.First.{EndsSaying, WritesFirst}
+use Rattle.cmd_dispatch.specs.declared.host.Host.{Host}
 
 -- what is still to be read of the input, before a command and behind it
 pub record Input : Type 0 where
   pub read : Option (List ℕ)
   pub new_read : Option (List ℕ)
 
-abbrev pub input_of : Option (List ℕ) → Option (List ℕ) → Input
-input_of read new_read = record { read = read; new_read = new_read }
+abbrev pub input_of : {S H R W E : Type 0} → (R → Option (List ℕ)) → Host S H R W E → Host S H R W E → Input
+input_of remaining old new = record { read = remaining old.input; new_read = remaining new.input }
 
 -- what was said as answers and as faults, before a command and behind it
 pub record Said : Type 0 where
@@ -23,12 +24,13 @@ pub record Said : Type 0 where
   pub faults : Option (List ℕ)
   pub new_faults : Option (List ℕ)
 
-abbrev pub output_of : Option (List ℕ) → Option (List ℕ) → Option (List ℕ) → Option (List ℕ) → Said
-output_of held new_held faults new_faults = record {
-  held = held;
-  new_held = new_held;
-  faults = faults;
-  new_faults = new_faults;
+abbrev pub output_of : {S H R W E : Type 0} → (W → Option (List ℕ)) → (E → Option (List ℕ)) → Host S H R W E
+    → Host S H R W E → Said
+output_of answers faults old new = record {
+  held = answers old.answers;
+  new_held = answers new.answers;
+  faults = faults old.faults;
+  new_faults = faults new.faults;
 }
 
 -- what is said to all lines that are read, and what may be said to the first of them

@@ -6,7 +6,6 @@ use Rattle.cert.specs.Claim.{Recorded}
 use Rattle.files.specs.Paths.{SameFile, Shelf, IsKept, IsKeptBut}
 use Rattle.cmd_options.specs.Ends.{EndsTold}
 use Rattle.cmd_options.specs.declared.ended.Ended.{Ended}
-use Rattle.cmd_options.specs.declared.ended.Ended.TheVariants.{NoMemory}
 use Rattle.cmd_options.specs.declared.outcome.Outcome.{Outcome}
 use Rattle.cmd_options.specs.declared.outcome.Outcome.TheVariants.{Accepted}
 use Rattle.cmd_options.specs.declared.options.Carrying.{Carrying}
@@ -30,7 +29,7 @@ use Rattle.cmd_parts.specs.AtPaths.{CollectsAt, JoinsAt, SettlesAt, SplitsAt, fi
 use Rattle.cmd_parts.specs.Look.{AnswersFirstBy, AnswersLines, PrintsAt}
 use Rattle.cmd_parts.specs.Split.{path_within}
 use Rattle.cmd_parts.specs.Stream.{JoinsStream}
-use Rattle.cmd_dispatch.specs.Ends.{Input, Said, EndsLate, Once, ToldApart, ToldBehind, WantsRoom}
+use Rattle.cmd_dispatch.specs.Ends.{Input, Said, EndsLate, ToldApart, ToldBehind, WantsRoom}
 
 -- what may come of locking the ledger at a path
 abbrev pub Locking : Type 0 → Type 1

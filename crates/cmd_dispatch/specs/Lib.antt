@@ -2,8 +2,6 @@ pub mod Ends
 pub mod Kept
 pub mod Lines
 pub mod Ledgers
-pub mod Trees
+pub mod Nodes
 pub mod Pages
-pub mod Serves
-pub mod Works
 pub mod Does

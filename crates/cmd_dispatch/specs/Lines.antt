@@ -1,5 +1,5 @@
 -- Commands that go by lines.
-use Rattle.std.specs.Prelude.{◌≡◌, ◌⊎◌, ℕ, Bool, true, false, List, Option, Some, None, IfNone, IfSome, Result, Ok, Err}
+use Rattle.std.specs.Prelude.{◌≡◌, ◌⊎◌, ℕ, Bool, true, false, Option, Some, None, IfNone, IfSome, Result, Ok, Err}
 use Rattle.machine_text.specs.Packed.{Packed}
 use Rattle.cert.specs.Claim.{Recorded}
 use Rattle.cmd_options.specs.declared.drawing.Drawing.{Drawing}
@@ -19,20 +19,20 @@ use Rattle.cmd_lines.specs.First.{AnswersFirst}
 use Rattle.cmd_lines.specs.Listed.{ListsFirst, ListsTables}
 use Rattle.cmd_lines.specs.Stream.{AnswersStream}
 use Rattle.cmd_explain.specs.Drawn.{SaysDrawn}
-use Rattle.cmd_explain.specs.Listed.{SaysListed}
-use Rattle.cmd_explain.specs.SeenLines.{SaysSeen}
+use Rattle.cmd_explain.specs.Explained.{SaysExplained}
+use Rattle.cmd_explain.specs.Seen.{SaysSeen}
 use Rattle.cmd_json.specs.LineObjects.{SaysChecked, SaysDecided, SaysTold}
 use Rattle.cmd_json.specs.Numbered.{AnswersFirstNumbered, AnswersNumbered}
 use Rattle.cmd_show.specs.WholeLines.{EndsInLines}
 use Rattle.cmd_show.specs.Files.{DrawsFiles, DrawsFirstLines}
 use Rattle.cmd_show.specs.One.{EndsPicture}
 use Rattle.system.specs.declared.progress.CountedDecider.{CountedDecider}
-use Rattle.cmd_dispatch.specs.Ends.{Input, Said, EndsLines, TellsLines, SaysLines, WantsRoom, EndsLate}
+use Rattle.cmd_dispatch.specs.Ends.{Always, Input, Said, EndsLines, TellsLines, SaysLines, WantsRoom, EndsLate}
 
 -- `bb check`: whether as JSON, and whether it says why
 abbrev pub DoesCheck : Bool → Bool → Input → Said → Result Outcome Ended → Type 0
 DoesCheck true why i s ended =
-    EndsLines (AnswersNumbered (SaysChecked why)) (AnswersFirstNumbered (SaysChecked why)) i s ended
+    EndsLines (AnswersNumbered SaysChecked) (AnswersFirstNumbered SaysChecked) i s ended
 DoesCheck false true i s ended = EndsLines (AnswersStream SaysOfRecord) (AnswersFirst SaysOfRecord) i s ended
 DoesCheck false false i s ended = TellsLines (AnswersStream SaysOfRecord) (AnswersFirst SaysOfRecord) i s ended
 
@@ -96,23 +96,22 @@ ExplainsLines false true run i s ended = EndsLines (AnswersStream SaysDrawn) (An
 ExplainsLines false false (Some k) i s ended =
     EndsLines (AnswersStream (SaysSeen k)) (AnswersFirst (SaysSeen k)) i s ended
 ExplainsLines false false None i s ended =
-    TellsLines (AnswersStream SaysListed) (AnswersFirst SaysListed) i s ended
+    TellsLines (AnswersStream SaysExplained) (AnswersFirst SaysExplained) i s ended
 
 abbrev pub DoesExplain : Explaining → Input → Said → Result Outcome Ended → Type 0
 DoesExplain e i s ended = ExplainsLines e.json e.dot e.run i s ended
 
 -- `bb show`
 abbrev pub DoesShow : Said → Result Outcome Ended → Type 0
-DoesShow s (Ok o) = EndsInLines s.held s.new_held o
-DoesShow s (Err e) = ⊥
+DoesShow s ended = Always (EndsInLines s.held s.new_held) ended
 
 -- `bb draw`: the picture of the first table as an answer, and no file changes; or those of all as files of a folder
 abbrev pub Draws : {H : Type 0} → (H → SameFile) → (H → Shelf) → Drawing → H → H → Input → Said → Outcome → Type 0
 Draws tells holds drawing host new_host i s o =
-    IfNone drawing.out (EndsPicture drawing i.read i.new_read s.held s.new_held s.faults s.new_faults o)
+    IfNone drawing.out (EndsPicture i.read i.new_read s.held s.new_held s.faults s.new_faults o)
     × IfNone drawing.out (new_host ≡ host)
-    × IfSome drawing.out (λ folder. SaysLines (DrawsFiles tells holds folder.now drawing host)
-    (DrawsFirstLines tells holds folder.now drawing host) i s o)
+    × IfSome drawing.out (λ folder. SaysLines (DrawsFiles tells holds folder.now host)
+    (DrawsFirstLines tells holds folder.now host) i s o)
 
 -- `bb tables`
 abbrev pub DoesList : Listing → Input → Said → Result Outcome Ended → Type 0

@@ -1,12 +1,12 @@
-//! From the words of a command line to what they ask for, done: `obey` reads the words, by `cmd_words`, and `execute` does what
-//! they ask for, with the finders, the files and the ledger that it uses.
+//! From the words of a command line to what they ask for, done: `obey` reads the words, by `cmd_words`, and `Host::execute` does
+//! what they ask for, with the finders, the files and the ledger that it uses.
 #![tactic(auto)]
 
 mod advice;
-mod call;
 mod executing;
 mod folders;
 mod heard;
+mod host;
 mod kept;
 mod late;
 mod ledgers;
@@ -23,11 +23,10 @@ mod refusals;
 mod serving;
 mod shared;
 mod sourced;
-mod texts;
 mod titles;
 mod tokens;
 mod walks;
 mod working;
 
-pub use executing::execute;
+pub use host::{Commands, Environment, Host};
 pub use obeying::obey;

@@ -19,6 +19,8 @@ impl<'a, D: Disk, S> Named<'a, D, S> {
 }
 
 impl<D: Disk, S: Read> Read for Named<'_, D, S> {
+    ghost remaining = { λ named. S.remaining named.stream.now };
+
     fn read(&mut self, buf: &mut [u8]) -> io::Result<usize> {
         match self.stream.read(buf) {
             Ok(count) => Ok(count),
@@ -42,6 +44,8 @@ impl<D: Disk, S> Named<'_, D, S> {
 }
 
 impl<D: Disk + ProgressTold, S: Write> Write for Named<'_, D, S> {
+    ghost contents = { λ named. S.contents named.stream.now };
+
     fn write(&mut self, buf: &[u8]) -> io::Result<usize> {
         self.disk.clear();
         match self.stream.write(buf) {

@@ -4,33 +4,26 @@ ghost use Rattle.cmd_words.specs.Unread.{EndsUnread};
 ghost use Rattle.cmd_options.specs.Ranges.{AreWithinRanges};
 
 use crate::advice::{Place, advice};
-use crate::execute;
 use crate::heard::Heard;
+use crate::host::{Environment, Host};
 use crate::lenient::Lenient;
 use crate::manner::{Manner, Source};
 use crate::named::Named;
 use crate::reasons::reason_of;
 use crate::shared::Shared;
 use crate::sourced::obeyed_by_source;
-use cmd_nodes::{Network, Sockets};
 use cmd_options::{Ended, NoMemory, Outcome};
 use cmd_parts::trunk_path;
 use cmd_words::{CommandLine, LineFault, Source as LinesFrom, command_line};
 use files::{Disk, OnDisk};
 use std::alloc::Global;
 use std::io::{Read, Write};
-use std::time::Clock;
 use system::{Oddity, ProgressTold, Saying};
 
 /// Does what the words ask for, the program's name first, and answers how it ended. Each end is an
 /// `Outcome`: a line that can't be read or is refused too, and a stream that fails. Behind the version stands of which sources
 /// the program is.
-pub fn obey<
-    S: Disk + Clock + Sockets + Network + ProgressTold + Saying,
-    R: Read,
-    W: Write,
-    E: Write,
->(
+pub fn obey<S: Environment + Saying, R: Read, W: Write, E: Write>(
     alloc: Global,
     words: Result<Vec<String>, LineFault>,
     sources: &str,
@@ -102,12 +95,7 @@ fn version_told<W: Write, E: Write>(
 }
 
 // Does what a line asks for, over this input, and says what there is to say of how it ended.
-pub(crate) fn obeyed<
-    S: Disk + Clock + Sockets + Network + ProgressTold + Saying,
-    R: Read,
-    W: Write,
-    E: Write,
->(
+pub(crate) fn obeyed<S: Environment + Saying, R: Read, W: Write, E: Write>(
     alloc: Global,
     line: &CommandLine<'_>,
     system: &S,
@@ -134,7 +122,7 @@ pub(crate) fn obeyed<
 }
 
 // Takes the lines as they are, or leniently.
-fn taken<S: Disk + Clock + Sockets + Network + ProgressTold, R: Read, W: Write, E: Write>(
+fn taken<S: Environment, R: Read, W: Write, E: Write>(
     alloc: Global,
     line: &CommandLine<'_>,
     system: &S,
@@ -154,7 +142,7 @@ fn taken<S: Disk + Clock + Sockets + Network + ProgressTold, R: Read, W: Write, 
 }
 
 // Does what is asked for; which of the streams fails is remembered.
-fn carried_out<S: Disk + Clock + Sockets + Network + ProgressTold, R: Read, W: Write, E: Write>(
+fn carried_out<S: Environment, R: Read, W: Write, E: Write>(
     alloc: Global,
     line: &CommandLine<'_>,
     system: &S,
@@ -168,19 +156,15 @@ fn carried_out<S: Disk + Clock + Sockets + Network + ProgressTold, R: Read, W: W
         LinesFrom::File(path) => path,
         LinesFrom::Standard | LinesFrom::Lines(_) => "standard input",
     };
-    let mut input = Named::of(system, name, input);
-    let mut answers = Named::of(system, "standard output", answers);
-    let mut faults = Named::of(system, "standard error", faults);
-    let mut files = OnDisk::of(alloc, system);
-    execute(
+    let mut host = Host {
         alloc,
-        line.asked,
         system,
-        &mut files,
-        &mut input,
-        &mut answers,
-        &mut faults,
-    )
+        files: OnDisk::of(alloc, system),
+        input: Named::of(system, name, input),
+        answers: Named::of(system, "standard output", answers),
+        faults: Named::of(system, "standard error", faults),
+    };
+    host.execute(line.asked)
 }
 
 // Where a command failed, says what of it failed, and why.

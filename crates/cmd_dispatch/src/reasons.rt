@@ -1,12 +1,14 @@
 // Why a ledger or a root was refused, in words: what the number on standard error says is looked for once more at the beginning of
 // what was read.
+ghost use Rattle.std.specs.Prelude.{◌≤◌, IfOk};
+
 use cmd_options::{NoMemory, Options};
 use cmd_parts::trunk_path;
 use files::Disk;
 use ledger::{LoadFault, peek_root};
 use machine_text::{TEXT_BYTES, Table};
 use std::alloc::Global;
-use std::io::Read;
+use std::io::{self, Read};
 use tnf::{in_order, root};
 
 // More bytes than the first line of a ledger has.
@@ -167,10 +169,25 @@ fn of_path<D: Disk>(
         return Ok((None, None));
     };
     let mut buffer = [0; BEGINNING];
-    let Ok(count) = file.read(&mut buffer) else {
+    let Ok(count) = fill(&mut file, &mut buffer) else {
         return Ok((None, None));
     };
     of_bytes(alloc, path, &buffer[..count])
+}
+
+// Reads until the buffer is full, or nothing comes: how many bytes came.
+fn fill<R: Read>(from: &mut R, buffer: &mut [u8; BEGINNING]) -> io::Result<usize>
+    ensures { IfOk result (λ count. count ≤ 128) }
+{
+    let mut count = 0;
+    for _ in 0..BEGINNING {
+        let more = from.read(&mut buffer[count..])?;
+        if more == 0 {
+            break;
+        }
+        count += more;
+    }
+    Ok(count)
 }
 
 // The root that the first bytes of a ledger name, or what is wrong with them.

@@ -1,25 +1,18 @@
 // A command over the lines that its command line names: on standard input, in a file, or its own arguments.
 ghost use Rattle.cmd_options.specs.Ranges.{AreWithinRanges};
 
+use crate::host::Environment;
 use crate::manner::{Manner, Source as Reads};
 use crate::obeying::{obeyed, tell_reason};
 use crate::shared::Shared;
-use cmd_nodes::{Network, Sockets};
 use cmd_options::{Ended, NoMemory, Outcome, ended_by};
 use cmd_words::{CommandLine, Source};
-use files::Disk;
 use std::alloc::Global;
 use std::io::{Read, Write};
-use std::time::Clock;
-use system::{ProgressTold, Saying};
+use system::Saying;
 
 // Does what a line asks for, over its lines.
-pub(crate) fn obeyed_by_source<
-    S: Disk + Clock + Sockets + Network + ProgressTold + Saying,
-    R: Read,
-    W: Write,
-    E: Write,
->(
+pub(crate) fn obeyed_by_source<S: Environment + Saying, R: Read, W: Write, E: Write>(
     alloc: Global,
     line: &CommandLine<'_>,
     system: &S,
@@ -45,7 +38,7 @@ pub(crate) fn obeyed_by_source<
 }
 
 // Over the lines of a file, which has to be there.
-fn obeyed_in_file<S: Disk + Clock + Sockets + Network + ProgressTold + Saying, W: Write, E: Write>(
+fn obeyed_in_file<S: Environment + Saying, W: Write, E: Write>(
     alloc: Global,
     line: &CommandLine<'_>,
     path: &str,

@@ -1,5 +1,6 @@
 // The token that a coordinator and its workers have.
-ghost use Rattle.std.specs.Prelude.{◌≡◌, IfOk, None};
+ghost use Rattle.std.specs.Prelude.{IfOk};
+ghost use Rattle.cmd_dispatch.specs.Nodes.{IsTokenAt};
 
 use cmd_nodes::Network;
 use cmd_options::{Ended, ended_by};
@@ -10,7 +11,7 @@ const FEWEST_BYTES: usize = 16;
 /// The token in a file, without a newline at its end; none where no file is named. `File` where it can't be read, or is too
 /// short.
 pub(crate) fn token_of<H: Network>(host: &H, path: Option<&str>) -> Result<Option<Vec<u8>>, Ended>
-    ensures { path.entry ≡ None → IfOk result (λ token. token ≡ None) }
+    ensures { IfOk result (IsTokenAt path.entry) }
 {
     let Some(path) = path else {
         return Ok(None);

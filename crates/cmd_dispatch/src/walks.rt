@@ -1,26 +1,26 @@
 // `bb walk`.
-ghost use Rattle.std.specs.Prelude.{◌≡◌, ◌⊎◌, IfOk, OnErr};
+ghost use Rattle.std.specs.Prelude.{◌≡◌, ◌⊎◌, IfNone, IfOk, OnErr};
 ghost use Rattle.cmd_json.specs.Forms.{IsText, form_of};
+ghost use Rattle.cmd_ledgers.specs.Settled.{TellsTree};
 ghost use Rattle.cmd_options.specs.Ranges.{IsWalking};
 ghost use Rattle.files.specs.Paths.{IsKeptBut};
 ghost use Rattle.cmd_parts.specs.Walking.{IsWalkedBoard, WalksTree};
 ghost use Rattle.cmd_dispatch.specs.Ends.{Once, OnceSaved, ToldApart, output_of};
-ghost use Rattle.cmd_dispatch.specs.Kept.{ChangesSaved};
-ghost use Rattle.cmd_dispatch.specs.Trees.{IsRootOf, WalksBy};
+ghost use Rattle.cmd_dispatch.specs.Nodes.{IsRootOf, WalksBy};
 
-use crate::call::Call;
+use crate::host::{Commands, Environment, Host, KnownRecords};
 use crate::late::Late;
 use cert::{Decider, Finders};
 use cmd_json::LinesOrJson;
-use cmd_options::{Durability, Ended, LedgerFile, Outcome, Saving, Walking, ended_by};
+use cmd_options::{Durability, Ended, LedgerFile, Options, Outcome, Saving, Walking, ended_by};
 use cmd_parts::cmd_walk;
-use files::{Disk, Files, ledger_at, lock_ledger};
+use files::{Files, ledger_at, lock_ledger};
 use find_search::{AnyFinder, SavingDecider, decider_for};
 use machine_text::Table;
 use std::alloc::Global;
 use std::io::{self, Read, Write};
 use std::time::Clock;
-use system::{ProgressTold, Telling, TimedProgress, Work};
+use system::{ProgressTold, TimedProgress, Work};
 use tnf::root;
 use wire::append_all;
 
@@ -30,105 +30,116 @@ const HEADER: &[u8] = b"bb-ledger";
 // How many bytes are read at once.
 const PIECE: usize = 4_096;
 
-// `bb walk`.
-#[tactic(auto, using(crate::proofs::Saving::found_or_saved))]
-pub(crate) fn walk<S: Disk + Clock + ProgressTold, H: Files, W: Write, E: Write>(
-    call: Call<'_, S>,
-    walking: &Walking<'_>,
-    files: &mut H,
-    answers: &mut W,
-    faults: &mut E,
-) -> Result<Outcome, Ended>
-    requires { IsWalking walking.now }
-    ensures saves { ChangesSaved (H.tells_same files.old) walking.now.saving (H.holds files.old) (H.holds files.new) }
-    ensures walks { OnceSaved (λ o. WalksBy ⟦<Finders<AnyFinder<'static>> as Decider>⟧.answers walking.now
-        (output_of (W.contents answers.old)
-        (W.contents answers.new) (E.contents faults.old) (E.contents faults.new)) o
-        ⊎ WalksBy ⟦<SavingDecider<Finders<AnyFinder<'static>>, H::Ledger> as Decider>⟧.answers walking.now
-        (output_of (W.contents answers.old)
-        (W.contents answers.new) (E.contents faults.old) (E.contents faults.new)) o)
-        (output_of (W.contents answers.old)
-        (W.contents answers.new) (E.contents faults.old) (E.contents faults.new)) result }
-{
-    let root = root_of(walking)?;
-    match walking.saving {
-        None => walk_found(call, walking, root, answers, faults),
-        Some(saving) => walk_saved(call, walking, saving, root, files, answers, faults),
+impl<S: Environment, H: Files, R: Read, W: Write, E: Write> Host<'_, S, H, R, W, E> {
+    // `bb walk`.
+    #[tactic(auto, using(crate::proofs::Saving::found_or_saved))]
+    pub(crate) fn walk(
+        &mut self,
+        known: KnownRecords<'_>,
+        walking: &Walking<'_>,
+    ) -> Result<Outcome, Ended>
+        requires { IsWalking walking.now }
+        ensures { ⟦<Self as Commands>⟧.does (Options.Walk walking.now) self.old self.new result }
+    {
+        let root = root_of(walking)?;
+        match walking.saving {
+            None => self.walk_found(known, walking, root),
+            Some(saving) => self.walk_saved(known, walking, saving, root),
+        }
+    }
+
+    // Keeps no record.
+    fn walk_found(
+        &mut self,
+        known: KnownRecords<'_>,
+        walking: &Walking<'_>,
+        root: Table,
+    ) -> Result<Outcome, Ended>
+        requires within { IsWalking walking.now }
+        requires root { IsRootOf walking.now root }
+        ensures files { self.new.files ≡ self.old.files }
+        ensures walks { Once (WalksBy ⟦<Finders<AnyFinder<'static>> as Decider>⟧.answers walking.now
+            (output_of W.contents E.contents self.old self.new)) (output_of W.contents E.contents self.old self.new)
+            result }
+    {
+        let mut finders = decider_for(self.alloc, known, &walking.search)?;
+        let progress = self.progress(walking.progress, Work::Walk);
+        let (outcome, late) = walk_by(
+            self.alloc,
+            walking,
+            root,
+            &mut finders,
+            progress,
+            &mut self.answers,
+        )?;
+        Ok(late.say(outcome, &mut self.faults))
+    }
+
+    // Saves the dear ones.
+    fn walk_saved(
+        &mut self,
+        known: KnownRecords<'_>,
+        walking: &Walking<'_>,
+        saving: Saving<'_>,
+        root: Table,
+    ) -> Result<Outcome, Ended>
+        requires within { IsWalking walking.now }
+        requires root { IsRootOf walking.now root }
+        ensures saves { IsKeptBut (H.tells_same self.old.files) saving.entry.path.now (H.holds self.old.files)
+            (H.holds self.new.files) }
+        ensures walks { OnceSaved (WalksBy
+            ⟦<SavingDecider<Finders<AnyFinder<'static>>, H::Ledger> as Decider>⟧.answers walking.now
+            (output_of W.contents E.contents self.old self.new)) (output_of W.contents E.contents self.old self.new)
+            result }
+    {
+        let finders = decider_for(self.alloc, known, &walking.search)?;
+        let (_lock, saved) = opened(&mut self.files, saving.path)?;
+        let mut decider = SavingDecider::new(finders, saving.dear, saved);
+        let progress = self.progress(walking.progress, Work::Walk);
+        let (outcome, late) = walk_by(
+            self.alloc,
+            walking,
+            root,
+            &mut decider,
+            progress,
+            &mut self.answers,
+        )?;
+        if decider.has_failed() {
+            return Err(Ended::Ledger);
+        }
+        Ok(late.say(outcome, &mut self.faults))
     }
 }
 
-// Keeps no record.
-fn walk_found<S: Disk + Clock + ProgressTold, W: Write, E: Write>(
-    call: Call<'_, S>,
+// Walks by a decider, and tells how far it is. How it ended, and what is to be said then.
+fn walk_by<D: Decider, S: Clock + ProgressTold, W: Write>(
+    alloc: Global,
     walking: &Walking<'_>,
     root: Table,
+    decider: &mut D,
+    mut progress: TimedProgress<'_, S>,
     answers: &mut W,
-    faults: &mut E,
-) -> Result<Outcome, Ended>
-    requires { IsRootOf walking.now root }
-    ensures { Once (WalksBy ⟦<Finders<AnyFinder<'static>> as Decider>⟧.answers walking.now
-        (output_of (W.contents answers.old)
-        (W.contents answers.new) (E.contents faults.old) (E.contents faults.new)))
-        (output_of (W.contents answers.old)
-        (W.contents answers.new) (E.contents faults.old) (E.contents faults.new)) result }
+) -> Result<(Outcome, Late), Ended>
+    requires within { IsWalking walking.now }
+    requires root { IsRootOf walking.now root }
+    ensures walks { IfOk result (λ r. ToldApart (WalksTree (IsText (form_of walking.now.json)) root
+        (IsWalkedBoard D D.answers) (W.contents answers.old) (W.contents answers.new)) r.0
+        × IfNone walking.now.root (TellsTree (IsText (form_of walking.now.json)) walking.now.states
+        (IsWalkedBoard D D.answers) (W.contents answers.old) (W.contents answers.new) r.0)) }
+    ensures err { OnErr result (W.contents answers.new ≡ W.contents answers.old) }
 {
-    let Call {
+    let mut late = Late::new(alloc)?;
+    let outcome = cmd_walk(
         alloc,
-        system,
-        known,
-    } = call;
-    let mut finders = decider_for(alloc, known, &walking.search)?;
-    let (outcome, late) = walk_by(
-        alloc,
-        walking,
+        &LinesOrJson::of(walking.json),
         root,
-        &mut finders,
-        system,
+        decider,
+        &mut progress,
         answers,
-        &mut *faults,
-    )?;
-    Ok(late.say(outcome, faults))
-}
-
-// Saves the dear ones.
-fn walk_saved<S: Disk + Clock + ProgressTold, H: Files, W: Write, E: Write>(
-    call: Call<'_, S>,
-    walking: &Walking<'_>,
-    saving: Saving<'_>,
-    root: Table,
-    files: &mut H,
-    answers: &mut W,
-    faults: &mut E,
-) -> Result<Outcome, Ended>
-    requires { IsRootOf walking.now root }
-    ensures saves { IsKeptBut (H.tells_same files.old) saving.entry.path.now (H.holds files.old) (H.holds files.new) }
-    ensures walks { OnceSaved (WalksBy ⟦<SavingDecider<Finders<AnyFinder<'static>>, H::Ledger> as Decider>⟧.answers
-        walking.now (output_of (W.contents answers.old)
-        (W.contents answers.new) (E.contents faults.old) (E.contents faults.new)))
-        (output_of (W.contents answers.old)
-        (W.contents answers.new) (E.contents faults.old) (E.contents faults.new)) result }
-{
-    let Call {
-        alloc,
-        system,
-        known,
-    } = call;
-    let finders = decider_for(alloc, known, &walking.search)?;
-    let (_lock, saved) = opened(files, saving.path)?;
-    let mut decider = SavingDecider::new(finders, saving.dear, saved);
-    let (outcome, late) = walk_by(
-        alloc,
-        walking,
-        root,
-        &mut decider,
-        system,
-        answers,
-        &mut *faults,
-    )?;
-    if decider.has_failed() {
-        return Err(Ended::Ledger);
-    }
-    Ok(late.say(outcome, faults))
+        &mut late.words,
+    );
+    progress.end();
+    Ok((outcome, late))
 }
 
 // The file to which records are saved, locked; a last line that isn't whole stays one of its own. A walk is long: that the file
@@ -196,37 +207,6 @@ fn saved_in<R: Read>(from: &mut R) -> io::Result<Saved> {
     } else {
         Saved::Torn
     })
-}
-
-// Walks by a decider. How it ended, and what is to be said then.
-fn walk_by<D: Decider, S: Disk + Clock + ProgressTold, W: Write, E: Write>(
-    alloc: Global,
-    walking: &Walking<'_>,
-    root: Table,
-    decider: &mut D,
-    system: &S,
-    answers: &mut W,
-    faults: &mut E,
-) -> Result<(Outcome, Late), Ended>
-    ensures walks { IfOk result (λ r. ToldApart (WalksTree (IsText (form_of walking.now.json)) root
-        (IsWalkedBoard D D.answers)
-        (W.contents answers.old) (W.contents answers.new)) r.0) }
-    ensures err { OnErr result (W.contents answers.new ≡ W.contents answers.old) }
-{
-    let telling = Telling::of(walking.progress, system.tells_terminal());
-    let mut late = Late::new(alloc)?;
-    let mut progress = TimedProgress::new(alloc, telling, Work::Walk, system);
-    let outcome = cmd_walk(
-        alloc,
-        &LinesOrJson::of(walking.json),
-        root,
-        decider,
-        &mut progress,
-        answers,
-        &mut late.words,
-    );
-    progress.end();
-    Ok((outcome, late))
 }
 
 // The root of the tree: the table that is asked for, which has so many states, or the empty table.

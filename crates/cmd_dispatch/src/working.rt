@@ -1,16 +1,16 @@
 // `bb work`.
 ghost use Rattle.cmd_options.specs.Ranges.{IsWorking};
 ghost use Rattle.cmd_dispatch.specs.Ends.{input_of, output_of};
-ghost use Rattle.cmd_dispatch.specs.Works.{Works, WorksAt, WorksFor};
+ghost use Rattle.cmd_dispatch.specs.Nodes.{WorksAt, WorksFor};
 
-use crate::call::Call;
+use crate::host::{Commands, Environment, Host, KnownRecords};
 use crate::kept::{Kept, nothing};
 use crate::nodes::{SearchingWorker, worker_of};
 use crate::tokens::token_of;
 use cmd_ledgers::keep_answer;
-use cmd_nodes::{Destination, MaybeLedger, Network, work_at, work_between};
-use cmd_options::{Ended, LedgerFile, Outcome, Working, ended_by};
-use files::{Disk, Files, Held, Opened};
+use cmd_nodes::{Destination, MaybeLedger, work_at, work_between};
+use cmd_options::{Ended, LedgerFile, Options, Outcome, Working, ended_by};
+use files::{Files, Held, Opened};
 use peers::Pool;
 use std::alloc::Global;
 use std::io::{self, Read, Write};
@@ -24,55 +24,60 @@ struct Workers<'a, H: Files> {
     locks: Vec<H::Lock>,
 }
 
-// `bb work`.
-pub(crate) fn work<S: Disk + Clock + Network, H: Files, R: Read, W: Write, E: Write>(
-    call: Call<'_, S>,
-    working: &Working<'_>,
-    files: &mut H,
-    input: &mut R,
-    answers: &mut W,
-    faults: &mut E,
-) -> Result<Outcome, Ended>
-    requires { IsWorking working.now }
-    ensures { Works S.Caller.calls working.now (input_of (R.remaining input.old) (R.remaining input.new))
-        (output_of (W.contents answers.old) (W.contents answers.new) (E.contents faults.old)
-        (E.contents faults.new)) result }
-{
-    let token = token_of(call.system, working.token)?;
-    let Workers {
-        mut pool,
-        locks: _locks,
-    } = workers_of(call, working, files)?;
-    work_for(call, working, &token, &mut pool, input, answers, faults)
-}
+impl<S: Environment, H: Files, R: Read, W: Write, E: Write> Host<'_, S, H, R, W, E> {
+    // `bb work`.
+    pub(crate) fn work(
+        &mut self,
+        known: KnownRecords<'_>,
+        working: &Working<'_>,
+    ) -> Result<Outcome, Ended>
+        requires { IsWorking working.now }
+        ensures { ⟦<Self as Commands>⟧.does (Options.Work working.now) self.old self.new result }
+    {
+        let token = token_of(self.system, working.token)?;
+        let Workers {
+            mut pool,
+            locks: _locks,
+        } = workers_of(self.alloc, self.system, known, working, &mut self.files)?;
+        self.work_for(working, &token, &mut pool)
+    }
 
-// For the coordinator at an address, or for the one whose frames come on `input`.
-fn work_for<N: Node, L: LedgerOut, S: Disk + Clock + Network, R: Read, W: Write, E: Write>(
-    call: Call<'_, S>,
-    working: &Working<'_>,
-    token: &Option<Vec<u8>>,
-    pool: &mut Pool<N, L>,
-    input: &mut R,
-    answers: &mut W,
-    faults: &mut E,
-) -> Result<Outcome, Ended>
-    ensures { WorksFor S.Caller.calls working.now working.now.connect (input_of (R.remaining input.old)
-        (R.remaining input.new)) (output_of (W.contents answers.old) (W.contents answers.new) (E.contents faults.old)
-        (E.contents faults.new)) result }
-{
-    let Call { alloc, system, .. } = call;
-    match working.connect {
-        Some(address) => {
-            let to = coordinator_at(address, token);
-            work_called(alloc, pool, system, to, working.tries, faults)
+    // For the coordinator at an address, or for the one whose frames come on the input.
+    fn work_for<N: Node, L: LedgerOut>(
+        &mut self,
+        working: &Working<'_>,
+        token: &Option<Vec<u8>>,
+        pool: &mut Pool<N, L>,
+    ) -> Result<Outcome, Ended>
+        ensures { WorksFor S.Caller.calls working.now working.now.connect (input_of R.remaining self.old self.new)
+            (output_of W.contents E.contents self.old self.new) result }
+    {
+        match working.connect {
+            Some(address) => {
+                let to = coordinator_at(address, token);
+                work_called(
+                    self.alloc,
+                    pool,
+                    self.system,
+                    to,
+                    working.tries,
+                    &mut self.faults,
+                )
+            }
+            None => work_between(
+                self.alloc,
+                pool,
+                &mut self.input,
+                &mut self.answers,
+                self.system,
+            ),
         }
-        None => work_between(alloc, pool, input, answers, system),
     }
 }
 
 // For one that is called.
 #[tactic(auto, using(crate::proofs::Calling::worked_at))]
-fn work_called<N: Node, L: LedgerOut, S: Disk + Clock + Network, E: Write>(
+fn work_called<N: Node, L: LedgerOut, S: Environment, E: Write>(
     alloc: Global,
     pool: &mut Pool<N, L>,
     system: &S,
@@ -97,8 +102,10 @@ fn coordinator_at<'a>(address: &'a str, token: &'a Option<Vec<u8>>) -> Destinati
 }
 
 // All workers of the process, with ids that follow one another.
-fn workers_of<'a, S: Clock, H: Files>(
-    call: Call<'a, S>,
+fn workers_of<'a, C: Clock, H: Files>(
+    alloc: Global,
+    clock: &C,
+    known: KnownRecords<'a>,
     working: &Working<'_>,
     files: &mut H,
 ) -> Result<Workers<'a, H>, Ended>
@@ -106,20 +113,22 @@ fn workers_of<'a, S: Clock, H: Files>(
 {
     let first_id = match working.first_id {
         Some(id) => id,
-        None => drawn_id(call.system)?,
+        None => drawn_id(clock)?,
     };
     let mut workers = Workers {
-        pool: Pool::new(call.alloc),
-        locks: Vec::new(call.alloc),
+        pool: Pool::new(alloc),
+        locks: Vec::new(alloc),
     };
     for place in 0..u32::from(working.workers) {
-        let path = ledger_path(call.alloc, working, place)?;
+        let path = ledger_path(alloc, working, place)?;
+        let id = first_id.saturating_add(place);
         add_worker(
+            alloc,
             &mut workers,
-            call,
+            known,
             working,
             files,
-            first_id.saturating_add(place),
+            id,
             path.as_deref(),
         )?;
     }
@@ -127,9 +136,10 @@ fn workers_of<'a, S: Clock, H: Files>(
 }
 
 // A worker, started from its ledger, where it has one.
-fn add_worker<'a, S, H: Files>(
+fn add_worker<'a, H: Files>(
+    alloc: Global,
     workers: &mut Workers<'a, H>,
-    call: Call<'a, S>,
+    known: KnownRecords<'a>,
     working: &Working<'_>,
     files: &mut H,
     id: u32,
@@ -140,8 +150,8 @@ fn add_worker<'a, S, H: Files>(
         _ => None,
     };
     let (held, mut ledger, lock) = kept_in(files, file)?;
-    let text = text_of(call.alloc, held)?;
-    let (worker, first) = worker_of(call.alloc, call.known, &working.search, id, &text)?;
+    let text = text_of(alloc, held)?;
+    let (worker, first) = worker_of(alloc, known, &working.search, id, &text)?;
     keep_answer(&first, &mut ledger)?;
     if let Some(lock) = lock
         && workers.locks.push(lock).is_err()

@@ -7,7 +7,7 @@ use Rattle.cmd_lines.specs.First.{AnswersFirst, IsSaidToFirst, WritesFirst}
 use Rattle.cmd_lines.specs.Said.{AreTakenBy, TakesStream}
 use Rattle.cmd_lines.specs.Stream.{AnswersStream, SaysAnswer}
 use Rattle.cmd_lines.proofs.Answering.{first_answered, stream_answered}
-use Rattle.cmd_explain.specs.SeenLines.{SaysSeen}
+use Rattle.cmd_explain.specs.Seen.{SaysSeen}
 use Rattle.cmd_explain.specs.inside.{KeepsSteps}
 
 module _ {D : Type 0} (steps : D → ℕ) where

@@ -1,104 +1,65 @@
--- What is seen of a table that nothing is claimed of, in the first steps of its run, and the words for it: that it halts, or
--- which cells its head visits. Of a run that goes on nothing is proved by that.
-use Rattle.std.specs.Prelude.{◌≡◌, ℕ, ◌+◌, ◌*◌, ◌/◌, ◌≤◌, ◌==◌, nat_le, nat_lt, if◌then◌else◌, pos, neg_ℤ, Some, List, [], ◌∷◌, codes, decimal}
+-- What `bb explain --run K` says to a line: of a table that nothing is claimed of, how its run goes in K steps, and behind that
+-- whole lines; to any other line what `bb explain` says.
+use Rattle.std.specs.Prelude.{◌≡◌, ℕ, ◌≤◌, min, List, [], ◌∷◌, ◌++◌, Option, Some, None, Result, Ok, Err, codes, decimal}
+use Rattle.std.specs.List.{concat}
 use Rattle.machine_text.specs.Packed.{Packed, entry_of}
+use Rattle.machine_text.specs.Text.{table_of, text_of}
+use Rattle.machine_text.specs.declared.faults.TextFault.{TextFault}
 use Rattle.law_turing.specs.Machine.{Machine}
 use Rattle.law_turing.specs.Run.{Config, after}
 use Rattle.law_turing.specs.Score.{HaltsWith}
-use Rattle.cmd_show.specs.Visits.{IsVisited}
-use Rattle.cmd_show.specs.declared.span.Span.{Span}
-use Rattle.cmd_explain.specs.declared.growth.Growth.{Growth}
-use Rattle.cmd_explain.specs.declared.growth.Growth.TheVariants.{Linear, SquareRoot, CubeRoot, Slower}
-use Rattle.cmd_explain.specs.declared.seen.Cells.{Cells}
+use Rattle.run.specs.Limits.{run_step_limit}
+use Rattle.text.specs.Lines.{BoundedLine}
+use Rattle.cert.specs.Claim.{Claim, HaltsClaim, NeverClaim, NoClaim, Recorded}
+use Rattle.cert.specs.declared.record_fault.RecordFault.{RecordFault}
+use Rattle.cmd_lines.specs.Answer.{read_line}
+use Rattle.cmd_options.specs.declared.outcome.Outcome.{Outcome}
+use Rattle.cmd_options.specs.declared.outcome.Outcome.TheVariants.{Accepted}
+use Rattle.cmd_show.specs.WholeLines.{AreWholeLines}
+use Rattle.cmd_explain.specs.Explained.{SaysExplained}
 use Rattle.cmd_explain.specs.declared.seen.Seen.{Seen}
 use Rattle.cmd_explain.specs.declared.seen.Seen.TheVariants.{Halts, Goes}
-use Rattle.cmd_explain.specs.Quantity.{sentence, quantity}
 
--- cells on both sides of the start
-abbrev pub span_of : Cells → Span
-span_of c = record { first = neg_ℤ (pos c.left); last = pos c.right }
-
--- how many they are, with the start
-abbrev pub cell_count : Cells → ℕ
-cell_count c = c.left + c.right + 1
-
--- the first k steps are carried out, with these cells visited, and with those up to time k / 64
-pub record StillRuns (m : Machine) (k : ℕ) (early cells : Cells) : Type 0 where
-  pub at : Config
-  pub is : after m k ≡ Some at
-  pub early_visited : IsVisited m 0 (k / 64) (span_of early)
-  pub visited : IsVisited m 0 k (span_of cells)
-
--- what is seen in k steps
+-- the run halts within k steps, after so many and with so many ones; or k steps are carried out
 abbrev pub IsSeen : Machine → ℕ → Seen → Type 0
 IsSeen m k (Halts steps ones) = (steps ≤ k) × HaltsWith m steps ones
-IsSeen m k (Goes early cells) = StillRuns m k early cells
+IsSeen m k (Goes early cells) = (c : Config) × (after m k ≡ Some c)
 
--- b cells in the place of a, in 64 times the steps: b is 64, 8, 4 or 1 times a, whichever is nearest on a scale of ratios.
--- So b is compared with the square roots of 64 times 8, of 8 times 4 and of 4 times 1, times a
-abbrev pub growth_of : ℕ → ℕ → Growth
-growth_of a b =
-    if nat_le (a * a) (b * b / 512) then Linear
-    else if nat_le (a * a) (b * b / 32) then SquareRoot
-    else if nat_le (a * a) (b * b / 4) then CubeRoot
-    else Slower
+-- what `bb check` says to a record that claims this
+unfoldable pub seen_text : Seen → List ℕ
+seen_text (Halts steps ones) = concat (codes " halts " ∷ decimal steps ∷ codes " ones " ∷ decimal ones ∷ [])
+seen_text (Goes early cells) = codes " undecided"
 
-abbrev pub growth_text : Growth → List ℕ
-growth_text Linear = codes "linearly: of 64, 8, 4 and 1 times as many cells, 64 times is nearest"
-growth_text SquareRoot =
-    codes "like the square root of the time: of 64, 8, 4 and 1 times as many cells, 8 times is nearest"
-growth_text CubeRoot =
-    codes "like the cube root of the time: of 64, 8, 4 and 1 times as many cells, 4 times is nearest"
-growth_text Slower =
-    codes "like a logarithm of the time, or more slowly: of 64, 8, 4 and 1 times as many cells, 1 time is nearest"
-
--- the answer to a record of a table that halts so, and the words for that
-unfoldable pub halted_words : ℕ → ℕ → List ℕ
-halted_words steps ones = sentence (
-    codes " halts " ∷ decimal steps ∷ codes " ones " ∷ decimal ones ∷ codes "\nIt halts after "
-    ∷ quantity steps (codes "step") ∷ codes ", the halting step counted, with " ∷ quantity ones (codes "one")
-    ∷ codes " on its tape.\n" ∷ [])
-
--- the start is cell 0, and cells on its left are negative
-abbrev pub sign_of : ℕ → List ℕ
-sign_of left = if left == 0 then [] else codes "-"
-
-unfoldable pub steps_words : ℕ → List ℕ
-steps_words k = sentence (codes " undecided\nSeen in " ∷ quantity k (codes "step") ∷ codes ", not proved:\n" ∷ [])
-
-unfoldable pub cells_words : Cells → List ℕ
-cells_words cells = sentence (
-    codes "The head visits " ∷ quantity (cell_count cells) (codes "cell") ∷ codes ", from " ∷ sign_of cells.left
-    ∷ decimal cells.left ∷ codes " to " ∷ decimal cells.right ∷ codes ".\n" ∷ [])
-
--- each cell beyond those before it is new once
-unfoldable pub sides_words : Cells → List ℕ
-sides_words cells = sentence (
-    codes "It comes to a new cell " ∷ quantity cells.left (codes "time") ∷ codes " at the left and "
-    ∷ quantity cells.right (codes "time") ∷ codes " at the right.\n" ∷ [])
-
-unfoldable pub early_words : ℕ → ℕ → List ℕ
-early_words k a = sentence (
-    codes "From " ∷ quantity a (codes "cell") ∷ codes " after " ∷ quantity (k / 64) (codes "step") ∷ codes " to" ∷ [])
-
-unfoldable pub late_words : ℕ → ℕ → List ℕ
-late_words k b = sentence (
-    codes " " ∷ quantity b (codes "cell") ∷ codes " after " ∷ quantity k (codes "step") ∷ codes " they" ∷ [])
-
-unfoldable pub fit_words : ℕ → ℕ → List ℕ
-fit_words a b = sentence (codes " grow " ∷ growth_text (growth_of a b) ∷ codes ".\n" ∷ [])
-
--- of fewer than 64 steps no growth is told
-abbrev pub growth_words : ℕ → ℕ → ℕ → List ℕ
-growth_words k a b =
-    if nat_lt k 64 then [] else sentence (early_words k a ∷ late_words k b ∷ fit_words a b ∷ [])
-
-abbrev pub seen_words : ℕ → Seen → List ℕ
-seen_words k (Halts steps ones) = halted_words steps ones
-seen_words k (Goes early cells) = sentence (
-    steps_words k ∷ cells_words cells ∷ sides_words cells ∷ growth_words k (cell_count early) (cell_count cells) ∷ [])
-
-pub record TellsSeen (p : Packed) (k : ℕ) (words : List ℕ) : Type 0 where
+pub record SeesRun (k : ℕ) (p : Packed) (answer : List ℕ) : Type 0 where
   pub seen : Seen
+  pub lines : List ℕ
   pub is_seen : IsSeen (entry_of p) k seen
-  pub is : words ≡ seen_words k seen
+  pub whole : AreWholeLines lines
+  pub is : answer ≡ text_of p ++ seen_text seen ++ 10 ∷ lines
+
+abbrev pub table_if : Claim → Packed → Option Packed
+table_if (HaltsClaim e) p = None
+table_if (NeverClaim r) p = None
+table_if NoClaim p = Some p
+
+abbrev pub table_parsed : Result Packed TextFault → Option Packed
+table_parsed (Ok p) = Some p
+table_parsed (Err f) = None
+
+-- a line that is a table alone
+abbrev pub table_alone : BoundedLine → Option Packed
+table_alone None = None
+table_alone (Some text) = table_parsed (table_of text)
+
+-- the table that is run: that of a record without a certificate, or a table alone
+abbrev pub table_run : BoundedLine → Result Recorded RecordFault → Option Packed
+table_run line (Ok r) = table_if r.claim r.table
+table_run line (Err f) = table_alone line
+
+abbrev pub SeesTable : ℕ → Option Packed → BoundedLine → Outcome → List ℕ → Type 0
+SeesTable k None line o answer = SaysExplained line o answer
+SeesTable k (Some p) line o answer = (o ≡ Accepted) × SeesRun k p answer
+
+-- in K steps, or as many as a run can make
+abbrev pub SaysSeen : ℕ → BoundedLine → Outcome → List ℕ → Type 0
+SaysSeen k line o answer = SeesTable (min k run_step_limit) (table_run line (read_line line)) line o answer

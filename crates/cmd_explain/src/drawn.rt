@@ -5,9 +5,9 @@ ghost use Rattle.cmd_lines.specs.Answer.{Answers, AnswersRecord, fault_text};
 ghost use Rattle.cmd_lines.specs.First.{AnswersFirst, WritesFirst};
 ghost use Rattle.cmd_lines.specs.Stream.{AnswersStream};
 ghost use Rattle.cmd_lines.specs.Taken.{lent};
-ghost use Rattle.cmd_explain.specs.Drawn.{SaysDrawn, comment, drawn_of_read, drawn_of_record};
+ghost use Rattle.cmd_explain.specs.Drawn.{IsDrawn, SaysDrawn, comment};
 
-use crate::graphs::append_graph;
+use crate::graphs::graph_of;
 use cert::{Record, RecordFault};
 use cmd_lines::{PIECE_BYTES, Sayer, answer_record, append_fault, read_line, say_lines};
 use cmd_options::{Ended, Outcome};
@@ -53,8 +53,8 @@ impl Sayer for Drawer {
     }
 }
 
-/// Appends what is drawn of a line, which is none where it was too long, with a newline.
-pub fn draw_line(alloc: Global, line: Option<&[u8]>, out: &mut Vec<u8>) -> Result<Outcome, NoMemory>
+// Appends what is drawn of a line, which is none where it was too long, with a newline.
+fn draw_line(alloc: Global, line: Option<&[u8]>, out: &mut Vec<u8>) -> Result<Outcome, NoMemory>
     ensures { IfOk result (λ o. (answer : List ℕ) × SaysDrawn (lent line.entry) o answer
         × (out.new.items ≡ out.old.items ++ answer ++ 10 ∷ [])) }
 {
@@ -69,8 +69,8 @@ fn draw_read(
     read: &Result<Record<'_>, RecordFault>,
     out: &mut Vec<u8>,
 ) -> Result<Outcome, NoMemory>
-    ensures { IfOk result (λ o. (first : List ℕ) × Answers (read_as read.now) o first
-        × (out.new.items ≡ out.old.items ++ drawn_of_read (read_as read.now) o first)) }
+    ensures { IfOk result (λ o. (first drawn : List ℕ) × Answers (read_as read.now) o first × IsDrawn o first drawn
+        × (out.new.items ≡ out.old.items ++ drawn)) }
 {
     match read {
         Ok(record) => draw_record(alloc, record, out),
@@ -91,15 +91,16 @@ fn append_fault_comment(fault: RecordFault, out: &mut Vec<u8>) -> Result<(), NoM
 
 // Appends what is drawn of a record.
 fn draw_record(alloc: Global, r: &Record, out: &mut Vec<u8>) -> Result<Outcome, NoMemory>
-    ensures { IfOk result (λ o. (first : List ℕ) × AnswersRecord (recorded r.now) o first
-        × (out.new.items ≡ out.old.items ++ drawn_of_record (recorded r.now) o first)) }
+    ensures { IfOk result (λ o. (first drawn : List ℕ) × AnswersRecord (recorded r.now) o first × IsDrawn o first drawn
+        × (out.new.items ≡ out.old.items ++ drawn)) }
 {
     let mut first = Vec::new(alloc);
     let Some(_) = answer_record(alloc, r, &mut first)? else {
         append_comment(&first, out)?;
         return Ok(Outcome::Refused);
     };
-    append_graph(alloc, &r.table, &r.certificate, out)?;
+    let graph = graph_of(alloc, &r.table, &r.certificate)?;
+    out.extend_from_slice(&graph)?;
     Ok(Outcome::Accepted)
 }
 

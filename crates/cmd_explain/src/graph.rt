@@ -1,180 +1,85 @@
-// Automata in the language of Graphviz.
-ghost use Rattle.std.specs.Prelude.{◌≡◌, ◌<◌, ◌++◌, IsTrue, OnOk, length};
-ghost use Rattle.text.specs.Parts.{parts_of};
-ghost use Rattle.cmd_explain.specs.Graph.{automaton_graph, count_of_target, edge_from, edge_label, edge_line, edge_text, edge_to, has_letter, node_line, number_of_target, start_edge, start_lines, start_point, state_lines, states_lines};
+// Automata in the language of Graphviz: a node for each state, and an edge for each transition, with its symbol.
+ghost use Rattle.std.specs.Prelude.{◌+◌, ◌*◌, ◌<◌, length};
 
 use kind_evidence::NoMemory;
-use text::{Parts, append_number};
+use text::append_number;
 
-/// Appends the graph of an automaton with a name, by the text of where each of its states goes on 0 and on 1.
-pub(crate) fn append_automaton_graph(
+/// Appends the graph of an automaton whose nodes' names begin so, by where each of its states goes on 0 and on 1. A point
+/// leads to the state in which it starts, which is 0.
+pub(crate) fn append_automaton(
     name: &str,
-    text: &[u8],
+    targets: &[Vec<u8>],
     out: &mut Vec<u8>,
-) -> Result<(), NoMemory>
-    ensures { OnOk result (out.new.items ≡ out.old.items ++ automaton_graph name.now (parts_of 44 text.now)) }
-{
+) -> Result<(), NoMemory> {
     append_start(name, out)?;
-    append_states(name, text, out)?;
+    for state in 0..targets.len() / 2 {
+        append_state(name, state, targets, out)?;
+    }
     Ok(())
 }
 
-/// Appends the point that leads to the state in which an automaton starts.
-#[tactic(auto, unfolding(crate::specs::Graph::start_lines))]
-pub(crate) fn append_start(name: &str, out: &mut Vec<u8>) -> Result<(), NoMemory>
-    ensures { OnOk result (out.new.items ≡ out.old.items ++ start_lines name.now) }
-{
-    append_start_point(name, out)?;
-    append_start_edge(name, out)
-}
-
-fn append_start_point(name: &str, out: &mut Vec<u8>) -> Result<(), NoMemory>
-    ensures { OnOk result (out.new.items ≡ out.old.items ++ start_point name.now) }
-{
+fn append_start(name: &str, out: &mut Vec<u8>) -> Result<(), NoMemory> {
     out.extend_from_slice(b"  ")?;
     out.extend_from_slice(name.as_bytes())?;
-    out.extend_from_slice(b"start [shape=point];\n")?;
-    Ok(())
-}
-
-#[tactic(auto, unfolding(crate::specs::Graph::start_edge))]
-fn append_start_edge(name: &str, out: &mut Vec<u8>) -> Result<(), NoMemory>
-    ensures { OnOk result (out.new.items ≡ out.old.items ++ start_edge name.now) }
-{
-    out.extend_from_slice(b"  ")?;
+    out.extend_from_slice(b"start [shape=point];\n  ")?;
     out.extend_from_slice(name.as_bytes())?;
     out.extend_from_slice(b"start -> ")?;
     out.extend_from_slice(name.as_bytes())?;
     out.extend_from_slice(b"0;\n")
 }
 
-// Appends the states from 0 on.
-fn append_states(name: &str, text: &[u8], out: &mut Vec<u8>) -> Result<(), NoMemory>
-    ensures { OnOk result (out.new.items ≡ out.old.items ++ states_lines name.now 0 (parts_of 44 text.now)) }
-{
-    let mut state: u64 = 0;
-    let mut targets = Parts::of(b',', text);
-    'targets: while let Some(zero) = targets.next() {
-        let Some(one) = targets.next() else {
-            return Ok(());
-        };
-        append_state(name, state, zero, one, out)?;
-        state += 1;
-    }
-    Ok(())
-}
-
-/// Appends a state and its edges.
-pub(crate) fn append_state(
+// Appends a state and its edges.
+fn append_state(
     name: &str,
-    state: u64,
-    zero: &[u8],
-    one: &[u8],
+    state: usize,
+    targets: &[Vec<u8>],
     out: &mut Vec<u8>,
 ) -> Result<(), NoMemory>
-    ensures { OnOk result (out.new.items ≡ out.old.items ++ state_lines name.now state zero.now one.now) }
+    requires { 2 * state + 1 < length targets.now }
 {
     append_node(name, state, out)?;
-    append_edge(name, state, "0", zero, out)?;
-    append_edge(name, state, "1", one, out)?;
-    Ok(())
+    out.extend_from_slice(b";\n")?;
+    append_edge(name, state, "0", &targets[2 * state], out)?;
+    append_edge(name, state, "1", &targets[2 * state + 1], out)
 }
 
-#[tactic(auto, unfolding(crate::specs::Graph::node_line))]
-fn append_node(name: &str, state: u64, out: &mut Vec<u8>) -> Result<(), NoMemory>
-    ensures { OnOk result (out.new.items ≡ out.old.items ++ node_line name.now state) }
-{
+fn append_node(name: &str, state: usize, out: &mut Vec<u8>) -> Result<(), NoMemory> {
     out.extend_from_slice(b"  ")?;
     out.extend_from_slice(name.as_bytes())?;
-    append_number(state, out)?;
-    out.extend_from_slice(b";\n")
+    append_number(state as u64, out)
 }
 
-// Appends the edge of a transition, where there is one.
+// Appends the edge of a transition, where there is one, with its symbol, and behind that the letter of its count.
 fn append_edge(
     name: &str,
-    state: u64,
+    state: usize,
     symbol: &str,
     target: &[u8],
     out: &mut Vec<u8>,
-) -> Result<(), NoMemory>
-    ensures { OnOk result (out.new.items ≡ out.old.items ++ edge_line name.now state symbol.now target.now) }
-{
+) -> Result<(), NoMemory> {
     if target == b"-".as_slice() {
         return Ok(());
     }
-    append_edge_text(name, state, symbol, target, out)
-}
-
-fn append_edge_text(
-    name: &str,
-    state: u64,
-    symbol: &str,
-    target: &[u8],
-    out: &mut Vec<u8>,
-) -> Result<(), NoMemory>
-    ensures { OnOk result (out.new.items ≡ out.old.items ++ edge_text name.now state symbol.now target.now) }
-{
-    append_edge_from(name, state, out)?;
-    append_edge_to(name, target, out)?;
-    append_edge_label(symbol, target, out)?;
-    Ok(())
-}
-
-#[tactic(auto, unfolding(crate::specs::Graph::edge_from))]
-fn append_edge_from(name: &str, state: u64, out: &mut Vec<u8>) -> Result<(), NoMemory>
-    ensures { OnOk result (out.new.items ≡ out.old.items ++ edge_from name.now state) }
-{
-    out.extend_from_slice(b"  ")?;
+    let (number, count) = number_and_count(target);
+    append_node(name, state, out)?;
+    out.extend_from_slice(b" -> ")?;
     out.extend_from_slice(name.as_bytes())?;
-    append_number(state, out)?;
-    out.extend_from_slice(b" -> ")
-}
-
-#[tactic(auto, unfolding(crate::specs::Graph::edge_to))]
-fn append_edge_to(name: &str, target: &[u8], out: &mut Vec<u8>) -> Result<(), NoMemory>
-    ensures { OnOk result (out.new.items ≡ out.old.items ++ edge_to name.now target.now) }
-{
-    out.extend_from_slice(name.as_bytes())?;
-    append_target(target, out)
-}
-
-#[tactic(auto, unfolding(crate::specs::Graph::edge_label))]
-fn append_edge_label(symbol: &str, target: &[u8], out: &mut Vec<u8>) -> Result<(), NoMemory>
-    ensures { OnOk result (out.new.items ≡ out.old.items ++ edge_label symbol.now target.now) }
-{
+    out.extend_from_slice(number)?;
     out.extend_from_slice(b" [label=\"")?;
     out.extend_from_slice(symbol.as_bytes())?;
-    append_count(target, out)?;
+    if !count.is_empty() {
+        out.extend_from_slice(b" ")?;
+    }
+    out.extend_from_slice(count)?;
     out.extend_from_slice(b"\"];\n")
 }
 
-// Whether a target has the letter of a count.
-fn has_letter(target: &[u8]) -> bool
-    ensures is { result ≡ has_letter target.now }
-    ensures some { IsTrue result → 0 < length target.now }
-{
+// A target's number, and the letter of its count behind it, where it has one.
+fn number_and_count(target: &[u8]) -> (&[u8], &[u8]) {
     let len = target.len();
-    len > 0 && target[len - 1] >= b'A'
-}
-
-// Appends the number of a target's state.
-fn append_target(target: &[u8], out: &mut Vec<u8>) -> Result<(), NoMemory>
-    ensures { OnOk result (out.new.items ≡ out.old.items ++ number_of_target target.now) }
-{
-    if !has_letter(target) {
-        return out.extend_from_slice(target);
+    if len > 0 && target[len - 1] >= b'A' {
+        (&target[..len - 1], &target[len - 1..])
+    } else {
+        (target, b"")
     }
-    out.extend_from_slice(&target[..target.len() - 1])
-}
-
-// Appends the letter of its count, where it has one.
-fn append_count(target: &[u8], out: &mut Vec<u8>) -> Result<(), NoMemory>
-    ensures { OnOk result (out.new.items ≡ out.old.items ++ count_of_target target.now) }
-{
-    if !has_letter(target) {
-        return Ok(());
-    }
-    out.extend_from_slice(b" ")?;
-    out.extend_from_slice(&target[target.len() - 1..])
 }

@@ -1,58 +1,22 @@
 // How cells that are visited grow with the time, by a fit in whole numbers.
-ghost use Rattle.std.specs.Prelude.{◌≡◌, ◌*◌};
-ghost use Rattle.cmd_explain.specs.Seen.{growth_of, growth_text};
 
-/// How a number grows with the time.
-#[derive(Clone, Copy, Debug, PartialEq, Eq)]
-pub(crate) enum Growth {
-    /// Like the time.
-    Linear,
-    /// Like its square root.
-    SquareRoot,
-    /// Like its cube root.
-    CubeRoot,
-    /// Like its logarithm, or more slowly.
-    Slower,
-}
-
-/// The growth from one number to another in 64 times the steps.
-pub(crate) fn growth_of(early: u64, late: u64) -> Growth
-    ensures { result ≡ growth_of early late }
-{
+/// The growth from one number to another in 64 times the steps, in words: it is 64, 8, 4 or 1 times as much, whichever is
+/// nearest on a scale of ratios. So the squares of the numbers are compared: 512 is 64 times 8, and so on.
+pub(crate) fn growth_text(early: u64, late: u64) -> &'static str {
     let before = square(early);
     let behind = square(late);
     if before <= behind / 512 {
-        Growth::Linear
+        "linearly: of 64, 8, 4 and 1 times as many cells, 64 times is nearest"
     } else if before <= behind / 32 {
-        Growth::SquareRoot
+        "like the square root of the time: of 64, 8, 4 and 1 times as many cells, 8 times is nearest"
     } else if before <= behind / 4 {
-        Growth::CubeRoot
+        "like the cube root of the time: of 64, 8, 4 and 1 times as many cells, 4 times is nearest"
     } else {
-        Growth::Slower
+        "like a logarithm of the time, or more slowly: of 64, 8, 4 and 1 times as many cells, 1 time is nearest"
     }
 }
 
-#[tactic(auto, using(crate::proofs::Sights::square_small))]
-fn square(number: u64) -> u128
-    ensures { result ≡ number * number }
-{
-    u128::from(number) * u128::from(number)
-}
-
-/// A growth in words, with the fit.
-pub(crate) fn growth_text(growth: Growth) -> &'static str
-    ensures { result.now ≡ growth_text growth }
-{
-    match growth {
-        Growth::Linear => "linearly: of 64, 8, 4 and 1 times as many cells, 64 times is nearest",
-        Growth::SquareRoot => {
-            "like the square root of the time: of 64, 8, 4 and 1 times as many cells, 8 times is nearest"
-        }
-        Growth::CubeRoot => {
-            "like the cube root of the time: of 64, 8, 4 and 1 times as many cells, 4 times is nearest"
-        }
-        Growth::Slower => {
-            "like a logarithm of the time, or more slowly: of 64, 8, 4 and 1 times as many cells, 1 time is nearest"
-        }
-    }
+// No square of a number of 64 bits is too large.
+fn square(number: u64) -> u128 {
+    u128::from(number).saturating_mul(u128::from(number))
 }

@@ -1,19 +1,19 @@
 //! `bb explain`: what the check of a record has shown, in words.
 //!
-//! `specs/Explained` is what is said to a line. Each kind of certificates has a module of its own and a file in `specs/`:
-//! the words, and the facts that they tell, which hold of each table of which they are said.
+//! `specs/Explained` is what is said to a line: the answer of `bb check`, and behind it lines that only show. Each kind of
+//! certificates has a module for its words; `lists` has the automata or the words that a certificate holds, as cells in
+//! `columns`.
 //!
-//! `specs/Listed` is what the command prints: what is said, and behind it the automata or the words that a certificate
-//! holds (`ReductionLists`, `CountedLists`, `NgramLists`), as lists of cells in columns (`Transitions`, `Lines`, `Limits`).
+//! `specs/Seen` is what is said with `--run`: how the run of a table without a certificate goes.
 //!
-//! `specs/SeenLines` is what it prints with `--run`: what is seen of a table without a certificate (`Seen`).
+//! `specs/Drawn` is what is said with `--dot`: the automata of a record (`graphs`) in the language of Graphviz (`graph`).
 //!
-//! `specs/Drawn` is what it prints with `--dot`: the automata of a record (`Graphs`) in the language of Graphviz (`Graph`).
+//! `specs/Why` is of what it is said why it is refused.
 #![tactic(auto)]
 
 mod backward_reasoning;
 mod columns;
-mod counted;
+mod counted_fields;
 mod counted_lists;
 mod cycling;
 mod drawn;
@@ -23,10 +23,8 @@ mod graph;
 mod graphs;
 mod growth;
 mod halting;
-mod limits;
 mod lists;
 mod named;
-mod ngram_lists;
 mod ngrams;
 mod quantity;
 mod reduction;
@@ -43,7 +41,8 @@ mod transitions;
 mod why;
 mod words;
 
-pub use drawn::{draw_line, explain_dot_for};
-pub use explain::{cmd_explain, explain_line, explain_line_in_full};
-pub use seeing::{explain_run_for, see_line};
-pub use why::{check_why_for, why_of};
+pub use drawn::explain_dot_for;
+pub use explain::cmd_explain;
+pub use seeing::explain_run_for;
+pub use why::{check_why_for, refused_words, why_of, words_of_refusal};
+pub use words::words_of;

@@ -1,23 +1,17 @@
 // What a certificate holds, in lists.
-ghost use Rattle.std.specs.Prelude.{◌≡◌, ◌++◌, OnOk};
-ghost use Rattle.cert.specs.Kinds.{claim_of};
-ghost use Rattle.cmd_explain.specs.Listed.{lists_of_claim};
-
 use crate::counted_lists::append_counted;
-use crate::ngram_lists::append_ngram;
+use crate::ngrams::append_ngram;
 use crate::reduction_lists::{append_far, append_listed};
 use cert::Certificate;
 use kind_evidence::NoMemory;
 use std::alloc::Global;
 
-/// Appends the lists of a certificate: automata or words, where it has some.
+/// Appends the lists of a certificate, automata or words, where it has some; each line with its newline in front.
 pub(crate) fn append_lists(
     alloc: Global,
     certificate: &Certificate,
     out: &mut Vec<u8>,
-) -> Result<(), NoMemory>
-    ensures { OnOk result (out.new.items ≡ out.old.items ++ lists_of_claim (claim_of certificate.now)) }
-{
+) -> Result<(), NoMemory> {
     match certificate {
         Certificate::Ngram(e) => append_ngram(alloc, e, out),
         Certificate::Far(e) => append_far(alloc, e, out),

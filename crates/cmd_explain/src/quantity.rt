@@ -4,16 +4,17 @@ use std::fmt;
 /// So many of what a noun names, as `1 step` and `2 steps`.
 #[derive(Clone, Copy, Debug)]
 pub(crate) struct Quantity {
-    pub number: u64,
-    pub noun: &'static str,
+    number: u64,
+    noun: &'static str,
+}
+
+impl Quantity {
+    pub fn of(number: u64, noun: &'static str) -> Quantity {
+        Quantity { number, noun }
+    }
 }
 
 impl fmt::Display for Quantity {
-    ghost use Rattle.std.specs.Prelude.{Some};
-    ghost use Rattle.cmd_explain.specs.Quantity.{quantity};
-
-    ghost output = { λ q. Some (quantity q.number q.noun.now) };
-
     fn fmt<W: fmt::Write>(&self, f: &mut fmt::Formatter<W>) -> fmt::Result {
         let ending = if self.number == 1 { "" } else { "s" };
         write!(f, "{} {}{ending}", self.number, self.noun)
@@ -23,24 +24,21 @@ impl fmt::Display for Quantity {
 /// A count behind `every`, as `step` and `2 steps`.
 #[derive(Clone, Copy, Debug)]
 pub(crate) struct Interval {
-    pub number: u64,
-    pub noun: &'static str,
+    number: u64,
+    noun: &'static str,
+}
+
+impl Interval {
+    pub fn of(number: u64, noun: &'static str) -> Interval {
+        Interval { number, noun }
+    }
 }
 
 impl fmt::Display for Interval {
-    ghost use Rattle.std.specs.Prelude.{Some};
-    ghost use Rattle.cmd_explain.specs.Quantity.{interval};
-
-    ghost output = { λ q. Some (interval q.number q.noun.now) };
-
     fn fmt<W: fmt::Write>(&self, f: &mut fmt::Formatter<W>) -> fmt::Result {
         if self.number == 1 {
             return f.write_str(self.noun);
         }
-        let quantity = Quantity {
-            number: self.number,
-            noun: self.noun,
-        };
-        write!(f, "{quantity}")
+        write!(f, "{} {}s", self.number, self.noun)
     }
 }

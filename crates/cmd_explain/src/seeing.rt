@@ -1,16 +1,17 @@
 // `bb explain --run`: records and tables in, what is seen of tables that nothing is claimed of out.
 ghost use Rattle.std.specs.Prelude.{◌≡◌, ◌≤◌, ◌⊎◌, ◌∷◌, [], ◌++◌, List, ℕ, min, IfErr, IfOk, OnOk};
-ghost use Rattle.machine_text.specs.Text.{table_of};
+ghost use Rattle.machine_text.specs.Text.{table_of, text_of};
 ghost use Rattle.run.specs.Limits.{run_step_limit};
 ghost use Rattle.cert.specs.Kinds.{claim_of, read_as};
 ghost use Rattle.cmd_lines.specs.Answer.{read_line};
 ghost use Rattle.cmd_lines.specs.First.{AnswersFirst, WritesFirst};
 ghost use Rattle.cmd_lines.specs.Stream.{AnswersStream};
 ghost use Rattle.cmd_lines.specs.Taken.{lent};
-ghost use Rattle.cmd_explain.specs.SeenLines.{SaysSeen, SeesRun, first_steps, table_alone, table_if, table_parsed, table_run};
+ghost use Rattle.cmd_explain.specs.Seen.{SaysSeen, SeesRun, seen_text, table_alone, table_if, table_parsed, table_run};
 
-use crate::explain::explain_line_in_full;
-use crate::seen_words::append_seen;
+use crate::explain::explain_line;
+use crate::seen::{Seen, see};
+use crate::seen_words::seen_words;
 use cert::{Certificate, Record, RecordFault, append_table};
 use cmd_lines::{Sayer, read_line, say_lines};
 use cmd_options::{Ended, Outcome, Showing};
@@ -20,6 +21,7 @@ use machine_text::Table;
 use run::MAX_RUN_STEPS;
 use std::alloc::Global;
 use std::io::{Read, Write};
+use text::append_number;
 
 // How many bytes are read at once: of a few tables, so that each is answered before many others are run.
 const FEW_BYTES: usize = 64;
@@ -85,7 +87,7 @@ pub fn see_line(
             Ok(Outcome::Accepted)
         }
         None => {
-            let outcome = explain_line_in_full(alloc, line, out)?;
+            let outcome = explain_line(alloc, line, out)?;
             Ok(outcome)
         }
     }
@@ -135,16 +137,50 @@ fn append_run(alloc: Global, steps: u64, t: &Table, out: &mut Vec<u8>) -> Result
     ensures { OnOk result ((answer : List ℕ) × SeesRun steps t.now answer
         × (out.new.items ≡ out.old.items ++ answer)) }
 {
-    append_table(t, out)?;
-    append_seen(alloc, t, steps, out)?;
-    append_shown(alloc, &first_steps(steps), t, out)?;
+    let seen = see(alloc, *t, steps)?;
+    let told = told_of(alloc, steps, t, seen)?;
+    append_answer(t, seen, out)?;
+    out.extend_from_slice(&told)?;
     out.push(b'\n')?;
     Ok(())
 }
 
-fn first_steps(steps: u64) -> Showing
-    ensures { result ≡ first_steps steps }
+// Appends the line of a table and of what is seen.
+fn append_answer(t: &Table, seen: Seen, out: &mut Vec<u8>) -> Result<(), NoMemory>
+    ensures { OnOk result (out.new.items ≡ out.old.items ++ text_of t.now ++ seen_text seen ++ 10 ∷ []) }
 {
+    append_table(t, out)?;
+    append_verdict(seen, out)?;
+    out.push(b'\n')?;
+    Ok(())
+}
+
+// Appends what is seen as `bb check` says it.
+#[tactic(auto, unfolding(crate::specs::Seen::seen_text))]
+fn append_verdict(seen: Seen, out: &mut Vec<u8>) -> Result<(), NoMemory>
+    ensures { OnOk result (out.new.items ≡ out.old.items ++ seen_text seen) }
+{
+    match seen {
+        Seen::Halts { steps, ones } => {
+            out.extend_from_slice(b" halts ")?;
+            append_number(steps, out)?;
+            out.extend_from_slice(b" ones ")?;
+            append_number(ones, out)
+        }
+        Seen::Goes { .. } => out.extend_from_slice(b" undecided"),
+    }
+}
+
+// The words for what is seen, and the first configurations, without the newline of the last line.
+fn told_of(alloc: Global, steps: u64, t: &Table, seen: Seen) -> Result<Vec<u8>, NoMemory> {
+    let words = seen_words(alloc, steps, seen)?;
+    let mut told = Vec::from_slice(alloc, words.as_bytes())?;
+    append_shown(alloc, &first_steps(steps), t, &mut told)?;
+    Ok(told)
+}
+
+// A hundred steps are shown, folded, and none beyond those that are seen.
+fn first_steps(steps: u64) -> Showing {
     Showing {
         from: 0,
         steps: steps.min(SHOWN_STEPS),

@@ -1,9 +1,8 @@
 // What is seen of a table's run in its first steps.
-ghost use Rattle.std.specs.Prelude.{◌≡◌, ℕ, ◌+◌, ◌/◌, ◌≤◌, ◌≤ℤ◌, neg_ℤ, pos, IfOk};
+ghost use Rattle.std.specs.Prelude.{◌≡◌, ℕ, ◌+◌, ◌≤◌, IfOk};
 ghost use Rattle.machine_text.specs.Packed.{entry_of};
 ghost use Rattle.law_turing.specs.Halting.{HaltsAt};
 ghost use Rattle.run.specs.Limits.{run_step_limit};
-ghost use Rattle.cmd_show.specs.Visits.{IsVisited};
 ghost use Rattle.cmd_explain.specs.Seen.{IsSeen};
 
 use cmd_show::Visits;
@@ -19,6 +18,20 @@ pub(crate) struct Cells {
     pub left: u64,
     /// How many are right of it.
     pub right: u64,
+}
+
+impl Cells {
+    fn of(visits: &Visits) -> Cells {
+        Cells {
+            left: visits.first().unsigned_abs(),
+            right: visits.last().unsigned_abs(),
+        }
+    }
+
+    /// How many they are, with the start.
+    pub fn count(self) -> u64 {
+        self.left.saturating_add(self.right).saturating_add(1)
+    }
 }
 
 /// What is seen of a run.
@@ -46,18 +59,17 @@ pub(crate) fn see(alloc: Global, t: Table, steps: u64) -> Result<Seen, NoMemory>
 
 // Goes on from a 64th of the steps, with the cells that were visited up to then.
 fn see_on(mut runner: Runner, mut visits: Visits, steps: u64) -> Result<Seen, NoMemory>
-    requires early { runner.steps ≡ steps / 64 }
+    requires onward { runner.steps ≤ steps }
     requires limit { steps ≤ run_step_limit }
-    requires visited { IsVisited (entry_of runner.table) 0 runner.steps visits.cells }
     ensures { IfOk result (λ seen. IsSeen (entry_of runner.table) steps seen) }
 {
-    let early = around_start(&visits);
+    let early = Cells::of(&visits);
     let step = visits.visit_to(&mut runner, steps)?;
     match step {
         Step::Halts { count } => Ok(halted(runner, count)),
         Step::Went => Ok(Seen::Goes {
             early,
-            cells: around_start(&visits),
+            cells: Cells::of(&visits),
         }),
     }
 }
@@ -73,19 +85,5 @@ fn halted(runner: Runner, count: u64) -> Seen
     Seen::Halts {
         steps: count,
         ones: runner.into_score(),
-    }
-}
-
-// How many cells were visited on each side of the start, which is one of them.
-#[tactic(auto, using(crate::proofs::Sights::left_abs, crate::proofs::Sights::right_abs))]
-fn around_start(visits: &Visits) -> Cells
-    requires low { visits.now.cells.first ≤ℤ pos 0 }
-    requires high { pos 0 ≤ℤ visits.now.cells.last }
-    ensures left { neg_ℤ (pos result.left) ≡ visits.now.cells.first }
-    ensures right { pos result.right ≡ visits.now.cells.last }
-{
-    Cells {
-        left: visits.first().unsigned_abs(),
-        right: visits.last().unsigned_abs(),
     }
 }

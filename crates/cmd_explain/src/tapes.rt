@@ -1,22 +1,15 @@
-// Forms of tape, as people write them.
-ghost use Rattle.std.specs.Prelude.{◌≡◌, IfOk, false, map, string_bytes};
-ghost use Rattle.machine_text.specs.Text.{symbol_byte};
-ghost use Rattle.law_induction.specs.Words.{word_symbols};
-ghost use Rattle.kind_rules.specs.Views.{form_in};
-ghost use Rattle.cmd_explain.specs.Notation.{block_text, end_text, form_text, half_text, head_sign, state_text, word_digits};
-
+// Forms of tape, as people write them: from left to right, `*` for any half tape and `$` for a blank one, a word in
+// brackets as often as its exponent says.
 use crate::exponents::{is_once, power_text};
 use crate::halting::{digit_of, letter_of_state};
 use kind_evidence::NoMemory;
 use kind_rules::{Form, symbols_of};
 use law_induction::Block;
-use machine_text::{Dir, MAX_STATES, State, Sym};
+use machine_text::{Dir, State, Sym};
 use std::alloc::Global;
 
 // Symbols as they stand on the tape.
-fn digits_of(alloc: Global, symbols: &[Sym]) -> Result<String, NoMemory>
-    ensures { IfOk result (λ text. string_bytes text ≡ map symbol_byte symbols.now) }
-{
+fn digits_of(alloc: Global, symbols: &[Sym]) -> Result<String, NoMemory> {
     let mut text = String::new(alloc);
     for symbol in symbols {
         text.push_str(digit_of(*symbol))?;
@@ -25,9 +18,7 @@ fn digits_of(alloc: Global, symbols: &[Sym]) -> Result<String, NoMemory>
 }
 
 // A word on a half tape as it is read from left to right.
-fn word_digits(alloc: Global, side: Dir, word: u64) -> Result<String, NoMemory>
-    ensures { IfOk result (λ text. string_bytes text ≡ word_digits side word) }
-{
+fn word_digits(alloc: Global, side: Dir, word: u64) -> Result<String, NoMemory> {
     let mut symbols = symbols_of(alloc, word)?;
     match side {
         Dir::L => symbols.reverse(),
@@ -36,11 +27,8 @@ fn word_digits(alloc: Global, side: Dir, word: u64) -> Result<String, NoMemory>
     digits_of(alloc, &symbols)
 }
 
-// A block.
-#[tactic(auto, unfolding(crate::specs::Notation::block_text))]
-fn block_text(alloc: Global, side: Dir, joins: bool, block: &Block) -> Result<String, NoMemory>
-    ensures { IfOk result (λ text. string_bytes text ≡ block_text side joins block.now) }
-{
+// A block; a word that stands once joins symbols before it.
+fn block_text(alloc: Global, side: Dir, joins: bool, block: &Block) -> Result<String, NoMemory> {
     let word = word_digits(alloc, side, block.word)?;
     if is_once(block.times) {
         if joins {
@@ -53,9 +41,7 @@ fn block_text(alloc: Global, side: Dir, joins: bool, block: &Block) -> Result<St
 }
 
 // The blocks of a half tape from left to right.
-fn half_text(alloc: Global, side: Dir, blocks: &[Block]) -> Result<String, NoMemory>
-    ensures { IfOk result (λ text. string_bytes text ≡ half_text side false blocks.now) }
-{
+fn half_text(alloc: Global, side: Dir, blocks: &[Block]) -> Result<String, NoMemory> {
     let mut text = String::new(alloc);
     let mut joins = false;
     for block in blocks {
@@ -65,44 +51,26 @@ fn half_text(alloc: Global, side: Dir, blocks: &[Block]) -> Result<String, NoMem
     Ok(text)
 }
 
-// The letter of a state.
-fn state_text(state: u8) -> &'static str
-    ensures { result.now ≡ state_text state }
-{
-    if state < MAX_STATES {
-        letter_of_state(State(state))
-    } else {
-        ""
-    }
-}
-
-// The head.
-fn head_sign(alloc: Global, heading: Dir, state: u8) -> Result<String, NoMemory>
-    ensures { IfOk result (λ text. string_bytes text ≡ head_sign heading state) }
-{
-    let state = state_text(state);
+// The head: its state, and a bracket that points to the half tape on whose first cell it is.
+fn head_sign(alloc: Global, heading: Dir, state: u8) -> Result<String, NoMemory> {
+    let state = letter_of_state(State(state));
     match heading {
         Dir::L => format!(in alloc; " <{state}"),
         Dir::R => format!(in alloc; " {state}>"),
     }
 }
 
-fn end_text(is_open: bool) -> &'static str
-    ensures { result.now ≡ end_text is_open }
-{
+fn end_text(is_open: bool) -> &'static str {
     if is_open { "*" } else { "$" }
 }
 
 /// A form between two ends.
-#[tactic(auto, unfolding(crate::specs::Notation::form_text))]
 pub(crate) fn form_text(
     alloc: Global,
     open_left: bool,
     open_right: bool,
     form: &Form,
-) -> Result<String, NoMemory>
-    ensures { IfOk result (λ text. string_bytes text ≡ form_text open_left open_right (form_in form.now)) }
-{
+) -> Result<String, NoMemory> {
     let mut left = Vec::from_slice(alloc, &form.left)?;
     left.reverse();
     let left = half_text(alloc, Dir::L, &left)?;

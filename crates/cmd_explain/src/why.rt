@@ -1,23 +1,17 @@
 // `bb check --why`: the answers of `bb check`, and beside them why records are refused, in words.
-ghost use Rattle.std.specs.Prelude.{◌≡◌, ◌⊎◌, ◌≤◌, ℕ, IfErr, IfNone, IfOk, IfSome, Ok, Some, option_map, string_bytes};
-ghost use Rattle.machine_text.specs.Packed.{entry_of};
-ghost use Rattle.law_turing.specs.Halting.{HaltsAt};
-ghost use Rattle.law_turing.specs.Score.{score_at};
-ghost use Rattle.run.specs.Limits.{halt_step_limit};
-ghost use Rattle.cert.specs.Certified.{IsRefusedBy};
-ghost use Rattle.cert.specs.Kinds.{claim_of, recorded};
+ghost use Rattle.std.specs.Prelude.{◌≡◌, ◌⊎◌, IfErr, IfOk, Ok};
+ghost use Rattle.cert.specs.Kinds.{recorded};
 ghost use Rattle.cmd_lines.specs.Answer.{SaysOfRecord, read_line};
 ghost use Rattle.cmd_lines.specs.First.{AnswersFirst, WritesFirst};
 ghost use Rattle.cmd_lines.specs.Stream.{AnswersStream};
 ghost use Rattle.cmd_lines.specs.Taken.{lent};
-ghost use Rattle.cmd_explain.specs.Why.{HasRight, TellsRight, TellsWhy, refused_words, right_words, why_line};
+ghost use Rattle.cmd_explain.specs.Why.{TellsWhy};
 
 use crate::quantity::Quantity;
 use cert::{Certificate, Record, judge};
 use cmd_lines::{PIECE_BYTES, Sayer, answer, read_line, say_lines};
 use cmd_options::{Ended, Outcome};
 use kind_evidence::{NoMemory, Refused};
-use machine_text::Table;
 use run::{HaltFinder, HaltsIn, MAX_HALT_STEPS};
 use std::alloc::Global;
 use std::io::{Read, Write};
@@ -77,10 +71,9 @@ impl<'a, E: Write> Sayer for WhyChecker<'a, E> {
     }
 }
 
-/// Why a line is refused, in words; of a table that halts otherwise than its record says, when it does, and with how many
-/// ones. Nothing where its record stands.
+/// Why a line is refused, in words; nothing where its record stands.
 pub fn why_of(alloc: Global, line: Option<&[u8]>) -> Result<Option<String>, NoMemory>
-    ensures { IfOk result (λ words. TellsWhy (read_line (lent line.entry)) (option_map string_bytes words)) }
+    ensures { IfOk result (TellsWhy (read_line (lent line.entry))) }
 {
     match read_line(line) {
         Ok(record) => why_of_record(alloc, &record),
@@ -92,107 +85,55 @@ pub fn why_of(alloc: Global, line: Option<&[u8]>) -> Result<Option<String>, NoMe
 }
 
 fn why_of_record(alloc: Global, r: &Record) -> Result<Option<String>, NoMemory>
-    ensures { IfOk result (λ words. TellsWhy (Ok (recorded r.now)) (option_map string_bytes words)) }
+    ensures { IfOk result (TellsWhy (Ok (recorded r.now))) }
 {
-    let refused = match judge(alloc, r) {
-        Ok(_) => return Ok(None),
-        Err(Refused::NoMemory) => return Err(NoMemory),
-        Err(refused) => refused,
-    };
-    match right_of_claim(alloc, r)? {
-        Some(words) => Ok(Some(words)),
-        None => words_of_refusal(alloc, r, refused),
+    match judge(alloc, r) {
+        Ok(_) => Ok(None),
+        Err(Refused::NoMemory) => Err(NoMemory),
+        Err(why) => {
+            let words = words_of_refusal(alloc, r, why)?;
+            Ok(Some(words))
+        }
     }
 }
 
-// For what a record is refused of whose table nothing better can be said.
-fn words_of_refusal(alloc: Global, r: &Record, why: Refused) -> Result<Option<String>, NoMemory>
-    requires refused { IsRefusedBy why (recorded r.now) }
-    requires no_right { HasRight (claim_of r.now.certificate) r.now.table → ⊥ }
-    ensures { IfOk result (λ words. TellsWhy (Ok (recorded r.now)) (option_map string_bytes words)) }
-{
-    let words = refused_words(alloc, why)?;
-    Ok(Some(words))
+/// Why a record is refused, in words; of a table that is said to halt, and halts otherwise, when it does, and with how many
+/// ones.
+pub fn words_of_refusal(alloc: Global, r: &Record, why: Refused) -> Result<String, NoMemory> {
+    match right_of_claim(alloc, r)? {
+        Some(e) => right_words(alloc, &e),
+        None => String::from_str(alloc, refused_words(why)),
+    }
 }
 
-// What is right of a table that is said to halt, if it does.
-fn right_of_claim(alloc: Global, r: &Record) -> Result<Option<String>, NoMemory>
-    ensures some { IfOk result (λ words. IfSome words (λ words. TellsRight r.now.table (string_bytes words))) }
-    ensures none { IfOk result (λ words. IfNone words (HasRight (claim_of r.now.certificate) r.now.table → ⊥)) }
-{
+// When a table halts that is said to, if it does within the limit of records.
+fn right_of_claim(alloc: Global, r: &Record) -> Result<Option<HaltsIn>, NoMemory> {
     match &r.certificate {
-        Certificate::Halts(_) => right_of(alloc, &r.table),
+        Certificate::Halts(_) => {
+            HaltFinder::new(alloc, MAX_HALT_STEPS).search(&r.table, MAX_HALT_STEPS)
+        }
         _ => Ok(None),
     }
 }
 
-// When a table halts, and with how many ones, if it does within the limit of records.
-fn right_of(alloc: Global, t: &Table) -> Result<Option<String>, NoMemory>
-    ensures some { IfOk result (λ words. IfSome words (λ words. TellsRight t.now (string_bytes words))) }
-    ensures none { IfOk result (λ words. IfNone words ((k : ℕ) → k ≤ halt_step_limit
-        → HaltsAt (entry_of t.now) k → ⊥)) }
-{
-    match HaltFinder::new(alloc, MAX_HALT_STEPS).search(t, MAX_HALT_STEPS)? {
-        Some(e) => {
-            let words = right_of_found(alloc, t, &e)?;
-            Ok(Some(words))
-        }
-        None => Ok(None),
-    }
-}
-
-fn right_of_found(alloc: Global, t: &Table, e: &HaltsIn) -> Result<String, NoMemory>
-    requires halts { HaltsAt (entry_of t.now) e.now.steps }
-    requires score { e.now.ones ≡ Some (score_at (entry_of t.now) e.now.steps) }
-    ensures { IfOk result (λ words. TellsRight t.now (string_bytes words)) }
-{
-    let ones = score_of(t, e);
-    let words = right_words(alloc, e.steps, ones)?;
-    Ok(words)
-}
-
-fn score_of(t: &Table, e: &HaltsIn) -> u64
-    requires { e.now.ones ≡ Some (score_at (entry_of t.now) e.now.steps) }
-    ensures { result ≡ score_at (entry_of t.now) e.now.steps }
-{
-    match e.ones {
-        Some(ones) => ones,
-        None => unreachable!(),
-    }
-}
-
-#[tactic(auto, unfolding(crate::specs::Why::right_words))]
-fn right_words(alloc: Global, steps: u64, ones: u64) -> Result<String, NoMemory>
-    ensures { IfOk result (λ words. string_bytes words ≡ right_words steps ones) }
-{
-    let steps = Quantity {
-        number: steps,
-        noun: "step",
-    };
-    let ones = Quantity {
-        number: ones,
-        noun: "one",
-    };
+fn right_words(alloc: Global, e: &HaltsIn) -> Result<String, NoMemory> {
+    let steps = Quantity::of(e.steps, "step");
+    let ones = Quantity::of(e.ones.unwrap_or(0), "one");
     format!(in alloc; "it halts after {steps} with {ones}")
 }
 
-fn refused_words(alloc: Global, why: Refused) -> Result<String, NoMemory>
-    ensures { IfOk result (λ words. string_bytes words ≡ refused_words why) }
-{
-    let words = match why {
+/// What a refusal means, in words.
+pub fn refused_words(why: Refused) -> &'static str {
+    match why {
         Refused::Fails => "it doesn't hold for the table",
         Refused::TooLong => "it asks for more than the limit of its kind",
         Refused::TooWide => "it asks for more paths, or larger numbers, than its check keeps",
         Refused::NotSeen => "its run isn't seen to repeat",
         Refused::NoMemory => "memory is refused",
-    };
-    String::from_str(alloc, words)
+    }
 }
 
 // Words of a line, with its number.
-#[tactic(auto, unfolding(crate::specs::Why::why_line))]
-fn numbered(alloc: Global, line: u64, words: &str) -> Result<String, NoMemory>
-    ensures { IfOk result (λ told. string_bytes told ≡ why_line line words.now) }
-{
+fn numbered(alloc: Global, line: u64, words: &str) -> Result<String, NoMemory> {
     format!(in alloc; "line {line}: {words}\n")
 }

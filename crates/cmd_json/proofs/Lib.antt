@@ -5,6 +5,4 @@ pub mod TreeJsons
 pub mod Characters
 pub mod Numbering
 pub mod WholeNumbers
-pub mod FirstLines
-pub mod Explaining
 pub mod Deciding

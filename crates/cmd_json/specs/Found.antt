@@ -1,7 +1,6 @@
 -- What is found of a line that should be a record, and when that is so.
-use Rattle.std.specs.Prelude.{◌≡◌, ℕ, Bool, true, false, List, Option, Some, None, IfSome, Result, Ok, Err, option_map, string_bytes}
+use Rattle.std.specs.Prelude.{◌≡◌, ℕ, List, Option, Some, None, IfSome, Result, Ok, Err, string_bytes, ⊤}
 use Rattle.machine_text.specs.Packed.{entry_of}
-use Rattle.text.specs.Lines.{BoundedLine}
 use Rattle.kind_evidence.specs.Verdict.{IsTrueOf, refused_number}
 use Rattle.kind_evidence.specs.declared.verdicts.Ending.{Ending}
 use Rattle.kind_evidence.specs.declared.verdicts.Refused.{Refused as Refusal}
@@ -9,24 +8,21 @@ use Rattle.cert.specs.Certified.{IsCertified, IsRefusedBy}
 use Rattle.cert.specs.Claim.{Recorded, ending_by, score_by, shown_by}
 use Rattle.cert.specs.Fault.{record_fault_number, record_fault_text}
 use Rattle.cert.specs.declared.record_fault.RecordFault.{RecordFault}
-use Rattle.cmd_lines.specs.Answer.{read_line}
 use Rattle.cmd_options.specs.declared.outcome.Outcome.{Outcome}
 use Rattle.cmd_options.specs.declared.outcome.Outcome.TheVariants.{Accepted, Refused, BadLine, NoMemory, Failed}
-use Rattle.cmd_explain.specs.Explained.{TellsClaim}
-use Rattle.cmd_explain.specs.Why.{TellsWhy, refused_words}
 use Rattle.cmd_json.specs.declared.finding.Finding.{Finding}
 use Rattle.cmd_json.specs.declared.finding.Finding.TheVariants.{Shows as FindsThat, Refuses as FindsFault}
 
 -- how the table's run ends, nothing where nothing is claimed, and the score that the record has, if it has one; or for
--- which number it is refused, and what that means
+-- which number it is refused, and what that means in words
 pub data LineFinding : Type 0 where
   Shows : Option Ending → Option ℕ → LineFinding
-  Refuses : ℕ → Option (List ℕ) → LineFinding
+  Refuses : ℕ → List ℕ → LineFinding
 
 -- a finding, apart from how its words are kept
 abbrev pub found : Finding → LineFinding
 found (FindsThat ending ones) = Shows ending ones
-found (FindsFault number meaning) = Refuses number (option_map string_bytes meaning)
+found (FindsFault number meaning) = Refuses number (string_bytes meaning)
 
 -- whether the line is accepted
 abbrev pub outcome_found : LineFinding → Outcome
@@ -37,28 +33,21 @@ outcome_found (Refuses number meaning) = Refused
 abbrev pub IsTrueRecord : Recorded → Type 0
 IsTrueRecord r = IsCertified r × IfSome (shown_by r.claim r.table) (λ v. IsTrueOf v (entry_of r.table))
 
--- what a refusal means, where it is asked for what is right too and where not
-abbrev pub Means : Bool → BoundedLine → Refusal → Option (List ℕ) → Type 0
-Means true line why meaning = TellsWhy (read_line line) meaning
-Means false line why meaning = meaning ≡ Some (refused_words why)
-
--- what may be found of a record, by whether it is accepted
-abbrev pub FindsRecord : Bool → BoundedLine → Recorded → Outcome → LineFinding → Type 0
-FindsRecord with_why line r Accepted f = IsTrueRecord r × (f ≡ Shows (ending_by r.claim) (score_by r.claim))
-FindsRecord with_why line r Refused f = (why : Refusal) × (number : ℕ) × (meaning : Option (List ℕ)) × IsRefusedBy why r
-    × (refused_number why ≡ Some number) × Means with_why line why meaning × (f ≡ Refuses number meaning)
-FindsRecord with_why line r BadLine f = ⊥
-FindsRecord with_why line r NoMemory f = ⊥
-FindsRecord with_why line r Failed f = ⊥
+-- what may be found of a record, by whether it is accepted; what its refusal means in words is said by no definition
+abbrev pub FindsRecord : Recorded → Outcome → LineFinding → Type 0
+FindsRecord r Accepted f = IsTrueRecord r × (f ≡ Shows (ending_by r.claim) (score_by r.claim))
+FindsRecord r Refused f = (why : Refusal) × (number : ℕ) × (meaning : List ℕ) × IsRefusedBy why r
+    × (refused_number why ≡ Some number) × (f ≡ Refuses number meaning)
+FindsRecord r BadLine f = ⊥
+FindsRecord r NoMemory f = ⊥
+FindsRecord r Failed f = ⊥
 
 -- and of what was read of a line
-abbrev pub Finds : Bool → BoundedLine → Result Recorded RecordFault → Outcome → LineFinding → Type 0
-Finds with_why line (Ok r) o f = FindsRecord with_why line r o f
-Finds with_why line (Err fault) o f =
-    (o ≡ Refused) × (f ≡ Refuses (record_fault_number fault) (Some (record_fault_text fault)))
+abbrev pub Finds : Result Recorded RecordFault → Outcome → LineFinding → Type 0
+Finds (Ok r) o f = FindsRecord r o f
+Finds (Err fault) o f = (o ≡ Refused) × (f ≡ Refuses (record_fault_number fault) (record_fault_text fault))
 
--- what is told of a record that is certified, in words; nothing of one that is refused, and of no other text
-abbrev pub TellsWords : Result Recorded RecordFault → Option (List ℕ) → Type 0
-TellsWords (Ok r) (Some words) = IsCertified r × TellsClaim r.claim r.table words
-TellsWords (Ok r) None = (why : Refusal) × IsRefusedBy why r
-TellsWords (Err f) words = words ≡ None
+-- the words for what has been shown are said by no definition; of what is refused there are none
+abbrev pub AreWordsFor : LineFinding → Option (List ℕ) → Type 0
+AreWordsFor (Shows ending ones) words = ⊤
+AreWordsFor (Refuses number meaning) words = words ≡ None

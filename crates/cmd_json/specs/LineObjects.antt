@@ -1,5 +1,5 @@
 -- What is said to a line as JSON, and when that is so.
-use Rattle.std.specs.Prelude.{◌≡◌, ℕ, Bool, false, List, Option, Result, Ok, Err}
+use Rattle.std.specs.Prelude.{◌≡◌, ℕ, List, Option, Result, Ok, Err}
 use Rattle.machine_text.specs.Packed.{Packed}
 use Rattle.text.specs.Lines.{BoundedLine}
 use Rattle.cert.specs.Claim.{Recorded}
@@ -8,22 +8,21 @@ use Rattle.cmd_lines.specs.Answer.{read_line}
 use Rattle.cmd_lines.specs.Decision.{read_line_table}
 use Rattle.cmd_options.specs.declared.outcome.Outcome.{Outcome}
 use Rattle.cmd_options.specs.declared.outcome.Outcome.TheVariants.{Accepted, Refused}
-use Rattle.cmd_json.specs.Found.{LineFinding, Finds, IsTrueRecord, TellsWords}
+use Rattle.cmd_json.specs.Found.{LineFinding, AreWordsFor, Finds, IsTrueRecord}
 use Rattle.cmd_json.specs.Objects.{check_object, decide_object, explain_object, object_text}
 
--- what `bb check --json` says to a line with such a number, with `--why` or without
-pub record SaysChecked (with_why : Bool) (number : ℕ) (line : BoundedLine) (o : Outcome)
-    (answer : List ℕ) : Type 0 where
+-- what `bb check --json` says to a line with such a number
+pub record SaysChecked (number : ℕ) (line : BoundedLine) (o : Outcome) (answer : List ℕ) : Type 0 where
   pub f : LineFinding
-  pub finds : Finds with_why line (read_line line) o f
+  pub finds : Finds (read_line line) o f
   pub is : answer ≡ object_text (check_object number line (read_line line) f)
 
 -- what `bb explain --json` says
 pub record SaysTold (number : ℕ) (line : BoundedLine) (o : Outcome) (answer : List ℕ) : Type 0 where
   pub f : LineFinding
   pub words : Option (List ℕ)
-  pub finds : Finds false line (read_line line) o f
-  pub tells : TellsWords (read_line line) words
+  pub finds : Finds (read_line line) o f
+  pub tells : AreWordsFor f words
   pub is : answer ≡ object_text (explain_object number line (read_line line) f words)
 
 -- a record of the table that the decider answers, which is certified, and true

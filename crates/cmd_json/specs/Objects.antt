@@ -50,7 +50,7 @@ code_found (Refuses number meaning) = Some number
 
 abbrev pub meaning_found : LineFinding → Option (List ℕ)
 meaning_found (Shows ending ones) = None
-meaning_found (Refuses number meaning) = meaning
+meaning_found (Refuses number meaning) = Some meaning
 
 -- what is told of what was read: the letter of its kind, its table, its text, and how its table's run ends
 abbrev pub kind_read : Result Recorded RecordFault → Option (List ℕ)

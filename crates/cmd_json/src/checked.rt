@@ -15,17 +15,17 @@ use std::alloc::Global;
 use std::io::{Read, Write};
 
 /// Checks as `cmd_check` of `cmd_lines` does, and says each answer as an object of JSON, a line each, with the number
-/// of its own line; where it is asked for why, what is right of a table whose count or score is wrong stands in it too. Where that ends early, what was
-/// printed is the answers to the first lines, in full unless a stream failed.
+/// of its own line; where it is asked for why, with what is right of a table whose count or score is wrong. Where that ends
+/// early, what was printed is the answers to the first lines, in full unless a stream failed.
 pub fn check_json_for<R: Read, W: Write>(
     alloc: Global,
     with_why: bool,
     input: &mut R,
     answers: &mut W,
 ) -> Result<Outcome, Ended>
-    ensures ok { IfOk result (AnswersNumbered (SaysChecked with_why) (R.remaining input.old) (R.remaining input.new)
+    ensures ok { IfOk result (AnswersNumbered SaysChecked (R.remaining input.old) (R.remaining input.new)
         (W.contents answers.old) (W.contents answers.new)) }
-    ensures first { IfErr result (WritesFirst (AnswersFirstNumbered (SaysChecked with_why) (R.remaining input.old)
+    ensures first { IfErr result (WritesFirst (AnswersFirstNumbered SaysChecked (R.remaining input.old)
         (R.remaining input.new)) (W.contents answers.old) (W.contents answers.new)) }
     ensures err { IfErr result (λ e. (e ≡ Ended.NoMemory) ⊎ (e ≡ Ended.Stream)) }
 {
@@ -52,8 +52,7 @@ impl Sayer for Checker {
     ghost use Rattle.cmd_json.specs.LineObjects.{SaysChecked};
     ghost use Rattle.cmd_json.specs.Numbered.{SaysNumbered};
 
-    ghost takes = { λ old line o new said. (new.with_why ≡ old.with_why)
-        × SaysNumbered (SaysChecked old.with_why) old.lines line o new.lines said };
+    ghost takes = { λ old line o new said. SaysNumbered SaysChecked old.lines line o new.lines said };
 
     ghost ends = { λ e. e ≡ WantsMemory };
 
@@ -71,11 +70,11 @@ pub fn check_json_line(
     line: Option<&[u8]>,
     out: &mut Vec<u8>,
 ) -> Result<Outcome, NoMemory>
-    ensures { IfOk result (λ o. (answer : List ℕ) × SaysChecked with_why number (lent line.entry) o answer
+    ensures { IfOk result (λ o. (answer : List ℕ) × SaysChecked number (lent line.entry) o answer
         × (out.new.items ≡ out.old.items ++ answer ++ 10 ∷ [])) }
 {
     let read = read_line(line);
-    let finding = find(alloc, with_why, line, &read)?;
+    let finding = find(alloc, with_why, &read)?;
     let object = check_value(alloc, number, line, &read, &finding)?;
     append_object(alloc, &object, out)?;
     Ok(finding.outcome())

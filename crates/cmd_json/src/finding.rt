@@ -1,15 +1,13 @@
 // What is found of a line that should be a record.
-ghost use Rattle.std.specs.Prelude.{◌≡◌, ◌≢◌, Some, IfOk, option_map, string_bytes};
+ghost use Rattle.std.specs.Prelude.{◌≡◌, ◌≢◌, IfOk, string_bytes};
 ghost use Rattle.cert.specs.Certified.{IsRefusedBy};
 ghost use Rattle.cert.specs.Fault.{record_fault_number, record_fault_text};
 ghost use Rattle.cert.specs.Claim.{ending_by, score_by};
 ghost use Rattle.cert.specs.Kinds.{claim_of, read_as, recorded};
-ghost use Rattle.cmd_explain.specs.Why.{refused_words};
-ghost use Rattle.cmd_lines.specs.Taken.{lent};
-ghost use Rattle.cmd_json.specs.Found.{Finds, FindsRecord, Means, Refuses, Shows, found, outcome_found};
+ghost use Rattle.cmd_json.specs.Found.{Finds, FindsRecord, Refuses, Shows, found, outcome_found};
 
 use cert::{Record, RecordFault, judge, standing_claims_are_true};
-use cmd_explain::why_of;
+use cmd_explain::{refused_words, words_of_refusal};
 use cmd_options::Outcome;
 use kind_evidence::{Ending, NoMemory, Refused};
 use std::alloc::Global;
@@ -25,7 +23,7 @@ pub(crate) enum Finding {
     /// A line that is refused: for which number, and what that means.
     Refuses {
         number: u16,
-        meaning: Option<String>,
+        meaning: String,
     },
 }
 
@@ -46,34 +44,26 @@ impl Finding {
 pub(crate) fn find(
     alloc: Global,
     with_why: bool,
-    line: Option<&[u8]>,
     read: &Result<Record<'_>, RecordFault>,
 ) -> Result<Finding, NoMemory>
-    ensures { IfOk result (λ f. Finds with_why (lent line.entry) (read_as read.now) (outcome_found (found f))
-        (found f)) }
+    ensures { IfOk result (λ f. Finds (read_as read.now) (outcome_found (found f)) (found f)) }
 {
     match read {
-        Ok(record) => find_record(alloc, with_why, line, record),
+        Ok(record) => find_record(alloc, with_why, record),
         Err(fault) => fault_found(alloc, *fault),
     }
 }
 
-/// What is found of a record.
-pub(crate) fn find_record(
-    alloc: Global,
-    with_why: bool,
-    line: Option<&[u8]>,
-    r: &Record,
-) -> Result<Finding, NoMemory>
-    ensures { IfOk result (λ f. FindsRecord with_why (lent line.entry) (recorded r.now) (outcome_found (found f))
-        (found f)) }
+// What is found of a record.
+fn find_record(alloc: Global, with_why: bool, r: &Record) -> Result<Finding, NoMemory>
+    ensures { IfOk result (λ f. FindsRecord (recorded r.now) (outcome_found (found f)) (found f)) }
 {
     standing_claims_are_true();
     // The proof needs that it is a table.
     let _ = r.table.states();
     match judge(alloc, r) {
         Ok(_) => Ok(shown(r)),
-        Err(refused) => refusal_found(alloc, with_why, line, r, refused),
+        Err(refused) => refusal_found(alloc, with_why, r, refused),
     }
 }
 
@@ -87,21 +77,19 @@ pub(crate) fn shown(r: &Record) -> Finding
     }
 }
 
-// What is found of a record that is refused, or for which memory is.
-fn refusal_found(
+/// What is found of a record that is refused, or for which memory is.
+pub(crate) fn refusal_found(
     alloc: Global,
     with_why: bool,
-    line: Option<&[u8]>,
     r: &Record,
     why: Refused,
 ) -> Result<Finding, NoMemory>
     requires { why ≢ Refused.NoMemory → IsRefusedBy why (recorded r.now) }
-    ensures { IfOk result (λ f. FindsRecord with_why (lent line.entry) (recorded r.now) (outcome_found (found f))
-        (found f)) }
+    ensures { IfOk result (λ f. FindsRecord (recorded r.now) (outcome_found (found f)) (found f)) }
 {
     match why.number() {
         Some(number) => {
-            let meaning = meaning_of(alloc, with_why, line, why)?;
+            let meaning = meaning_of(alloc, with_why, r, why)?;
             Ok(Finding::Refuses { number, meaning })
         }
         None => Err(NoMemory),
@@ -109,46 +97,22 @@ fn refusal_found(
 }
 
 // What a refusal means; where it is asked for, what is right of the table.
-fn meaning_of(
-    alloc: Global,
-    with_why: bool,
-    line: Option<&[u8]>,
-    why: Refused,
-) -> Result<Option<String>, NoMemory>
-    ensures { IfOk result (λ meaning. Means with_why (lent line.entry) why (option_map string_bytes meaning)) }
-{
+fn meaning_of(alloc: Global, with_why: bool, r: &Record, why: Refused) -> Result<String, NoMemory> {
     if with_why {
-        why_of(alloc, line)
+        words_of_refusal(alloc, r, why)
     } else {
-        let words = refused_words(alloc, why)?;
-        Ok(Some(words))
+        String::from_str(alloc, refused_words(why))
     }
 }
 
-fn refused_words(alloc: Global, why: Refused) -> Result<String, NoMemory>
-    ensures { IfOk result (λ words. string_bytes words ≡ refused_words why) }
-{
-    let words = match why {
-        Refused::Fails => "it doesn't hold for the table",
-        Refused::TooLong => "it asks for more than the limit of its kind",
-        Refused::TooWide => "it asks for more paths, or larger numbers, than its check keeps",
-        Refused::NotSeen => "its run isn't seen to repeat",
-        Refused::NoMemory => "memory is refused",
-    };
-    String::from_str(alloc, words)
-}
-
-// What is found of a text that is no record.
+/// What is found of a text that is no record.
 pub(crate) fn fault_found(alloc: Global, fault: RecordFault) -> Result<Finding, NoMemory>
     ensures { IfOk result (λ f. (outcome_found (found f) ≡ Outcome.Refused)
-        × (found f ≡ Refuses (record_fault_number fault) (Some (record_fault_text fault)))) }
+        × (found f ≡ Refuses (record_fault_number fault) (record_fault_text fault))) }
 {
     let number = fault.number();
     let meaning = fault_words(alloc, fault)?;
-    Ok(Finding::Refuses {
-        number,
-        meaning: Some(meaning),
-    })
+    Ok(Finding::Refuses { number, meaning })
 }
 
 /// What a fault of a text means, in words.

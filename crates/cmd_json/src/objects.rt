@@ -1,5 +1,5 @@
 // The objects that are said to lines.
-ghost use Rattle.std.specs.Prelude.{◌≡◌, ◌++◌, ◌∷◌, [], false, IfOk, OnOk, option_map};
+ghost use Rattle.std.specs.Prelude.{◌≡◌, ◌++◌, ◌∷◌, [], false, IfOk, OnOk, option_map, string_bytes};
 ghost use Rattle.serde_json.specs.View.{view};
 ghost use Rattle.serde_json.specs.Written.{has_float};
 ghost use Rattle.text.specs.Lines.{BoundedLine};
@@ -84,11 +84,11 @@ pub(crate) fn explain_value(
     line: Option<&[u8]>,
     read: &Read<'_>,
     finding: &Finding,
-    words: &Option<Vec<u8>>,
+    words: &Option<String>,
 ) -> Result<Value, NoMemory>
     ensures { IfOk result (λ object. view object
         ≡ explain_object number (lent line.entry) (read_as read.now) (found finding.now)
-        (option_map (λ words. words.items) words.now)) }
+        (option_map string_bytes words.now)) }
 {
     let mut kind = kind_value(alloc, read)?;
     let mut meaning = meaning_value(alloc, finding)?;
@@ -227,11 +227,11 @@ fn line_value(alloc: Global, line: Option<&[u8]>) -> Result<Value, NoMemory>
 }
 
 // What is told, or null.
-fn told_value(alloc: Global, words: &Option<Vec<u8>>) -> Result<Value, NoMemory>
-    ensures { IfOk result (λ text. view text ≡ words_value (option_map (λ words. words.items) words.now)) }
+fn told_value(alloc: Global, words: &Option<String>) -> Result<Value, NoMemory>
+    ensures { IfOk result (λ text. view text ≡ words_value (option_map string_bytes words.now)) }
 {
     match words {
-        Some(words) => text_value(alloc, words),
+        Some(words) => text_value(alloc, words.as_bytes()),
         None => Ok(Value::Null),
     }
 }
@@ -327,11 +327,8 @@ fn meaning_value(alloc: Global, finding: &Finding) -> Result<Value, NoMemory>
     ensures { IfOk result (λ meaning. view meaning ≡ words_value (meaning_found (found finding.now))) }
 {
     match finding {
-        Finding::Refuses {
-            meaning: Some(meaning),
-            ..
-        } => text_value(alloc, meaning.as_bytes()),
-        _ => Ok(Value::Null),
+        Finding::Refuses { meaning, .. } => text_value(alloc, meaning.as_bytes()),
+        Finding::Shows { .. } => Ok(Value::Null),
     }
 }
 

@@ -59,7 +59,7 @@ module _ (root : Packed) (table : IsTable root) where
     ks,
     subst (Agree root ks) (sym gives.1) agree,
     refl,
-    λ kept so. inr (λ fit. fit_or_known root rs r (fit_now root ks rs r agree fit) gives.0, so),
+    λ kept so. inr (λ fit. absurd (fit_or_known root rs r (fit_now root ks rs r agree fit) gives.0), so),
   )
   offered ks rs mid rest r (Err NoMemory) agree is gives = absurd is
   offered ks rs mid rest r (Err WrongSize) agree is gives = (

@@ -28,8 +28,9 @@ abbrev pub records_of_lines : List (List ℕ) → List Recorded
 records_of_lines [] = []
 records_of_lines (line ∷ lines) = with_read (record_of line) (records_of_lines lines)
 
--- of the lines behind the header of a root the records are kept that are fit in their turn, and held are those, each with
--- its score, and each that a later one settles replaced by that one; all other lines are dropped
+-- of the lines behind the header of a root the records are kept that are fit in their turn (one whose check may overflow
+-- may be left out), and held are those, each with its score, and each that a later one settles replaced by that one; all
+-- other lines are dropped
 pub record AreMended (root : Packed) (lines : List (List ℕ)) (rs : List Recorded) (dropped : ℕ) : Type 0 where
   pub kept : List Recorded
   pub fit : AreKept root [] (records_of_lines lines) kept

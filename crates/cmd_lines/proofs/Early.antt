@@ -1,6 +1,6 @@
 -- What was taken and said where the taking ended early.
-use Rattle.std.proofs.Common.{◌≡◌, ◌⊎◌, inl, inr, ℕ, List, [], ◌∷◌, ◌++◌, Option, Some, None, Result, Ok, Err, OnOk, OnErr, IfOk, IfErr, IsErrAnd, sym, ◌∙◌, ap, subst, refl, append_assoc, append-nil}
-use Rattle.std.proofs.KnownBytes.{Appends-nil, Appends-trans, Consumes-kept, Consumes-nil, Consumes-trans, Keeps-refl}
+use Rattle.std.proofs.Common.{◌≡◌, ◌⊎◌, inl, inr, ℕ, List, [], ◌++◌, Option, Result, Ok, Err, OnOk, OnErr, IfOk, IfErr, IsErrAnd, sym, ◌∙◌, ap, subst, refl, append_assoc, append-nil}
+use Rattle.std.proofs.KnownBytes.{Appends-nil, Appends-trans, Consumes-kept, Consumes-nil, Consumes-trans}
 use Rattle.std.specs.Io.KnownBytes.{Appends, Consumes, IsAtEnd, Keeps}
 use Rattle.text.specs.Lines.{joined, BoundedLine}
 use Rattle.cmd_options.specs.Ends.{EndsTold, IsCutShort}
@@ -10,7 +10,7 @@ use Rattle.cmd_options.specs.declared.ended.Ended.TheVariants.{Stream, NoMemory 
 use Rattle.cmd_options.specs.declared.outcome.Outcome.{Outcome}
 use Rattle.cmd_options.specs.declared.outcome.Outcome.TheVariants.{Accepted, NoMemory, Failed}
 use Rattle.cmd_lines.specs.First.{EndsSaying, IsSaidToFirst, WritesFirst}
-use Rattle.cmd_lines.specs.Lines.{AreFirstLines, AreLines, AreOneLineEach}
+use Rattle.cmd_lines.specs.Lines.{AreFirstLines, AreLines}
 use Rattle.cmd_lines.specs.Said.{AreTakenBy, TakesStream, first_fault}
 use Rattle.cmd_lines.specs.Taken.{AreTakenInTurn, HasTakenFirst, HasTakenLines, TakesFirst, TakesMore}
 use Rattle.cmd_lines.specs.inside.Taking.{IsSaid, SaysBut}

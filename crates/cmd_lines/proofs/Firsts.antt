@@ -7,9 +7,7 @@ use Rattle.std.specs.Io.KnownBytes.{Appends}
 use Rattle.std.specs.List.{list_any}
 use Rattle.indexmap.specs.IndexSet.{insert_key}
 use Rattle.machine_text.specs.Packed.{Packed}
-use Rattle.machine_text.specs.Text.{table_of}
 use Rattle.machine_text.specs.declared.faults.TextFault.{TextFault}
-use Rattle.text.specs.Lines.{bounded_line}
 use Rattle.cert.specs.Claim.{Recorded}
 use Rattle.cert.specs.declared.record_fault.RecordFault.{RecordFault}
 use Rattle.cmd_lines.specs.Answer.{read_line}
@@ -20,10 +18,10 @@ use Rattle.cmd_lines.specs.First.{IsSaidToFirst, WritesFirst}
 use Rattle.cmd_lines.specs.Said.{AreTakenBy, TakesStream, first_fault}
 use Rattle.cmd_lines.specs.Taken.{lent}
 use Rattle.cmd_options.specs.declared.options.Listing.{Listing}
-use Rattle.cmd_lines.specs.Listed.{Found, alone, found_by, of_record, tables_of, first_ones, found_line, same_packed, IsPrinted, ArePrinted, AreFoundIn, IsFoundIn, ListsFirst, ListsTables}
-use Rattle.cmd_lines.specs.Words.{words, onto, tables_among, tables_of_line}
+use Rattle.cmd_lines.specs.Listed.{Found, alone, found_by, tables_of, first_ones, found_line, same_packed, IsPrinted, ArePrinted, AreFoundIn, IsFoundIn, ListsFirst, ListsTables}
+use Rattle.cmd_lines.specs.Words.{columns, words, is_row, table_in, tables_in, tables_of_column, tables_of_columns, tables_of_line, tables_of_word}
 use Rattle.cmd_lines.proofs.Early.{said_so, stream_first}
-use Rattle.cmd_lines.specs.inside.Listing.{PrintsFirst, ListsFor, ListsLine, words_left, left_tables}
+use Rattle.cmd_lines.specs.inside.Listing.{PrintsFirst, ListsFor, ListsLine, columns_left, words_left, left_tables}
 
 -- what is found of a table that came before, and of one that didn't
 first_came : (came : List Packed) (f : Found) (found : List Found) → list_any (same_packed f.table) came ≡ true → first_ones came (f ∷ found) ≡ first_ones came found
@@ -100,9 +98,9 @@ lists_nothing came = record {
 pub lists_for_nothing : (l : Listing) (came : List Packed) → ListsFor l came [] came []
 lists_for_nothing l came = ([], refl, lists_nothing came)
 
--- a word that is no table
-pub lists_none : (l : Listing) (came : List Packed) (r : Result Packed TextFault) (f : TextFault) → r ≡ Err f → ListsFor l came (map alone (onto r [])) came []
-lists_none l came r f is = subst (λ (k : Result Packed TextFault). ListsFor l came (map alone (onto k [])) came []) (sym is) (lists_for_nothing l came)
+-- a column that is no table
+pub lists_none : (l : Listing) (came ts : List Packed) (r : Result Packed TextFault) (f : TextFault) → table_in r ≡ ts → r ≡ Err f → ListsFor l came (map alone ts) came []
+lists_none l came ts r f reads is = subst (λ (k : List Packed). ListsFor l came (map alone k) came []) (sym (ap table_in is) ∙ reads) (lists_for_nothing l came)
 
 printed_one : (l : Listing) (f p : Found) → IsPrinted l f p → ArePrinted l (f ∷ []) (p ∷ [])
 printed_one l f p is = (p, [], refl, is, refl)
@@ -132,16 +130,16 @@ one_first l came new f p printed first put =
       },
     )
 
--- the same of a word that is a table
-pub lists_double : (l : Listing) (came new : List Packed) (r : Result Packed TextFault) (t p : Packed) → r ≡ Ok t → IsPrinted l (alone t) (alone p) → list_any (same_packed p) came ≡ true → new ≡ insert_key same_packed came p
-    → ListsFor l came (map alone (onto r [])) new []
-lists_double l came new r t p is printed double put =
-    subst (λ (k : Result Packed TextFault). ListsFor l came (map alone (onto k [])) new []) (sym is) (one_double l came new (alone t) (alone p) printed double put)
+-- the same of a column that is a table
+pub lists_double : (l : Listing) (came new ts : List Packed) (r : Result Packed TextFault) (t p : Packed) → table_in r ≡ ts → r ≡ Ok t → IsPrinted l (alone t) (alone p) → list_any (same_packed p) came ≡ true → new ≡ insert_key same_packed came p
+    → ListsFor l came (map alone ts) new []
+lists_double l came new ts r t p reads is printed double put =
+    subst (λ (k : List Packed). ListsFor l came (map alone k) new []) (sym (ap table_in is) ∙ reads) (one_double l came new (alone t) (alone p) printed double put)
 
-pub lists_first : (l : Listing) (came new : List Packed) (r : Result Packed TextFault) (t p : Packed) → r ≡ Ok t → IsPrinted l (alone t) (alone p) → list_any (same_packed p) came ≡ false → new ≡ insert_key same_packed came p
-    → ListsFor l came (map alone (onto r [])) new (found_line (alone p))
-lists_first l came new r t p is printed first put =
-    subst (λ (k : Result Packed TextFault). ListsFor l came (map alone (onto k [])) new (found_line (alone p))) (sym is) (one_first l came new (alone t) (alone p) printed first put)
+pub lists_first : (l : Listing) (came new ts : List Packed) (r : Result Packed TextFault) (t p : Packed) → table_in r ≡ ts → r ≡ Ok t → IsPrinted l (alone t) (alone p) → list_any (same_packed p) came ≡ false → new ≡ insert_key same_packed came p
+    → ListsFor l came (map alone ts) new (found_line (alone p))
+lists_first l came new ts r t p reads is printed first put =
+    subst (λ (k : List Packed). ListsFor l came (map alone k) new (found_line (alone p))) (sym (ap table_in is) ∙ reads) (one_first l came new (alone t) (alone p) printed first put)
 
 -- what `put_first` answers, the other way round
 pub came_before : (came : List Packed) (t : Packed) (first : Bool) → first ≡ not (list_any (same_packed t) came) → first ≡ false → list_any (same_packed t) came ≡ true
@@ -155,21 +153,23 @@ pub line_left : (o : Option (Bor (List ℕ))) → tables_of_line (lent o) ≡ le
 line_left None = refl
 line_left (Some text) = refl
 
-left_words : (o : Option (Bor (List ℕ))) → tables_among (words_left o) ≡ left_tables o
+left_words : (o : Option (Bor (List ℕ))) → flat_map tables_of_word (words_left o) ≡ left_tables o
 left_words None = refl
 left_words (Some text) = refl
 
-onto_both : (r : Result Packed TextFault) (tables : List Packed) → onto r tables ≡ onto r [] ++ tables
-onto_both (Ok t) tables = refl
-onto_both (Err f) tables = refl
-
-pub left_more : (all done : List Packed) (text word : List ℕ) (rest : Option (Bor (List ℕ))) → all ≡ done ++ tables_among (words text) → words text ≡ word ∷ words_left rest
-    → all ≡ (done ++ tables_among (word ∷ [])) ++ left_tables rest
+pub left_more : (all done : List Packed) (text word : List ℕ) (rest : Option (Bor (List ℕ))) → all ≡ done ++ tables_in text → words text ≡ word ∷ words_left rest
+    → all ≡ (done ++ tables_of_word word) ++ left_tables rest
 left_more all done text word rest is cut =
-    let one : tables_among (words text) ≡ onto (table_of word) [] ++ left_tables rest =
-    ap tables_among cut ∙ (onto_both (table_of word) (tables_among (words_left rest)) ∙ ap (λ (k : List Packed). onto (table_of word) [] ++ k) (left_words rest))
+    let one : tables_in text ≡ tables_of_word word ++ left_tables rest =
+    ap (flat_map tables_of_word) cut ∙ ap (λ (k : List Packed). tables_of_word word ++ k) (left_words rest)
     in
-    is ∙ (ap (λ (k : List Packed). done ++ k) one ∙ sym (append_assoc done (onto (table_of word) []) (left_tables rest)))
+    is ∙ (ap (λ (k : List Packed). done ++ k) one ∙ sym (append_assoc done (tables_of_word word) (left_tables rest)))
+
+-- and of a word
+pub columns_more : (all done : List Packed) (behind : Bool) (text column : List ℕ) (rest : Option (Bor (List ℕ))) → all ≡ done ++ tables_of_columns behind (columns text) → columns text ≡ column ∷ columns_left rest
+    → all ≡ (done ++ tables_of_column behind column) ++ tables_of_columns (is_row column) (columns_left rest)
+columns_more all done behind text column rest is cut =
+    is ∙ (ap (λ (k : List (List ℕ)). done ++ tables_of_columns behind k) cut ∙ sym (append_assoc done (tables_of_column behind column) (tables_of_columns (is_row column) (columns_left rest))))
 
 pub left_none : (all done : List Packed) (o : Option (Bor (List ℕ))) → all ≡ done ++ left_tables o → o ≡ None → all ≡ done
 left_none all done o is none = is ∙ (ap (λ (k : Option (Bor (List ℕ))). done ++ left_tables k) none ∙ append-nil done)

@@ -7,20 +7,23 @@ ghost use Rattle.run.specs.Limits.{run_step_limit};
 ghost use Rattle.cert.specs.Kinds.{recorded};
 ghost use Rattle.cmd_lines.specs.First.{EndsSaying, WritesFirst};
 ghost use Rattle.cmd_lines.specs.Listed.{Found, IsFoundIn, IsInForm, ListsFirst, ListsTables, alone, of_record, same_packed};
-ghost use Rattle.cmd_lines.specs.Words.{tables_among, tables_in, tables_of_line};
+ghost use Rattle.cmd_lines.specs.Words.{table_in, tables_of_column, tables_of_line, tables_of_word};
 ghost use Rattle.cmd_lines.specs.inside.Listing.{ListsFor, found_if};
 
 use crate::normal::normal_form;
 use crate::passed::Passed;
-use crate::words::cut_word;
+use crate::words::{cut_column, cut_word};
 use crate::{PIECE_BYTES, Sayer, read_line, say_lines};
 use cert::{Record, append_table};
 use cmd_options::{Ended, Listing, Outcome, told};
 use indexmap::IndexSet;
 use kind_evidence::NoMemory;
-use machine_text::Table;
+use machine_text::{Table, TextFault};
 use std::alloc::Global;
 use std::io::{Read, Write};
+
+// How long a row of a table is. Where commas stand between rows, none of them is a table of one state.
+const ROW_BYTES: usize = 6;
 
 /// Reads a text of any form, and prints the tables in it in the standard form, a line each, where they come first: renamed
 /// and mirrored as their runs ask for, if that is wanted; and a line that is a record, apart from white space at its ends,
@@ -210,7 +213,7 @@ fn list_tables_in(
     Ok(count)
 }
 
-// Appends a word that is a table and comes first.
+// Appends the tables in a word that come first.
 fn list_word(
     form: &Form,
     word: &[u8],
@@ -219,10 +222,35 @@ fn list_word(
     said: &mut Vec<u8>,
 ) -> Result<(), Ended>
     ensures ok { OnOk result ((more : List ℕ) × ListsFor form.now.listing came.old.keys
-        (map alone (tables_among (word.now ∷ []))) came.new.keys more × (said.new.items ≡ said.old.items ++ more)) }
+        (map alone (tables_of_word word.now)) came.new.keys more × (said.new.items ≡ said.old.items ++ more)) }
     ensures err { IfErr result (λ e. e ≡ Ended.NoMemory) }
 {
-    let Ok(t) = Table::parse(word) else {
+    let mut left = Some(word);
+    let mut is_behind_row = false;
+    'columns: while let Some(text) = left {
+        let (column, rest) = cut_column(text);
+        list_column(form, is_behind_row, column, came, count, said)?;
+        is_behind_row = column.len() == ROW_BYTES;
+        left = rest;
+    }
+    Ok(())
+}
+
+// Appends a column that is a table and comes first.
+fn list_column(
+    form: &Form,
+    is_behind_row: bool,
+    column: &[u8],
+    came: &mut IndexSet<Table>,
+    count: &mut Count,
+    said: &mut Vec<u8>,
+) -> Result<(), Ended>
+    ensures ok { OnOk result ((more : List ℕ) × ListsFor form.now.listing came.old.keys
+        (map alone (tables_of_column is_behind_row column.now)) came.new.keys more
+        × (said.new.items ≡ said.old.items ++ more)) }
+    ensures err { IfErr result (λ e. e ≡ Ended.NoMemory) }
+{
+    let Ok(t) = table_of(is_behind_row, column) else {
         return Ok(());
     };
     count.tables = count.tables.saturating_add(1);
@@ -234,6 +262,16 @@ fn list_word(
     append_table(&t, said)?;
     said.extend_from_slice(b"\n")?;
     Ok(())
+}
+
+// The table that a column is.
+fn table_of(is_behind_row: bool, column: &[u8]) -> Result<Table, TextFault>
+    ensures { table_in result ≡ tables_of_column is_behind_row column.now }
+{
+    if is_behind_row && column.len() == ROW_BYTES {
+        return Err(TextFault::BadLength);
+    }
+    Table::parse(column)
 }
 
 // Puts a table among those that came, and answers whether it is the first.

@@ -6,6 +6,7 @@ pub mod Peers
 pub mod Traffic
 pub mod OwnFaults
 pub mod Taking
+pub mod NoneOpen
 pub mod Roots
 pub mod Steps
 pub mod Settling

@@ -12,6 +12,10 @@ IsOwnFault e = (e ≡ Ledger) ⊎ (e ≡ NoMemory)
 abbrev pub EndsTalk : Ended → Type 0
 EndsTalk e = IsOwnFault e ⊎ (e ≡ Stream)
 
+-- they have called once or more, as far as calls are counted
+abbrev pub HasCalled : ℕ → ℕ → Type 0
+HasCalled before after = capped_sum before 1 ≤ after
+
 -- they give up by a fault of their own, or, once they have called so many times, as far as calls are counted, by a stream
 -- that failed
 abbrev pub GivesUp : ℕ → ℕ → ℕ → Ended → Type 0

@@ -2,7 +2,7 @@
 ghost use Rattle.std.specs.Prelude.{◌≡◌, ◌≢◌, ◌≤◌, ◌+◌, Ok, IfErr, IfOk, OnOk};
 ghost use Rattle.peers.specs.Due.{capped_sum};
 ghost use Rattle.peers.specs.Waiting.{waits_of};
-ghost use Rattle.cmd_nodes.specs.Calls.{EndsTalk, GivesUp, IsOwnFault};
+ghost use Rattle.cmd_nodes.specs.Calls.{EndsTalk, GivesUp, HasCalled, IsOwnFault};
 
 use crate::answerer::{Answered, Answerer};
 use crate::caller::{CoordinatorCaller, Destination};
@@ -62,6 +62,7 @@ pub fn work_at<N: Node, L: LedgerOut, H: Network + Clock, K: CoordinatorCaller>(
     tries: u64,
 ) -> Result<Outcome, Ended>
     ensures ok { IfOk result (λ o. (o ≡ Outcome.Accepted) × (waits_of pool.new.crew.cores ≡ Waits.Nothing)) }
+    ensures called { IfOk result (λ _. HasCalled (K.calls caller.old) (K.calls caller.new)) }
     ensures err { IfErr result (GivesUp tries (K.calls caller.old) (K.calls caller.new)) }
 {
     let mut failed: u64 = 0;

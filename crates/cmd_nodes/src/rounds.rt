@@ -1,5 +1,5 @@
 // Rounds of a coordinator and workers in one process.
-ghost use Rattle.std.specs.Prelude.{◌≡◌, ◌⊎◌, OnOk, true};
+ghost use Rattle.std.specs.Prelude.{◌≡◌, ◌⊎◌, OnOk, true, false};
 ghost use Rattle.cmd_nodes.specs.Rounds.{TakesRound, TakesRounds};
 ghost use Rattle.cmd_nodes.specs.Served.{NoneOpen};
 ghost use Rattle.cmd_nodes.specs.inside.{EachBecomes, IsServed, IsSettled};
@@ -71,7 +71,8 @@ fn tick<L: LedgerOut>(
 
 // Whether no table of its board is open.
 pub(crate) fn is_settled(coordinator: &Coordinator) -> bool
-    ensures { result ≡ true → IsSettled coordinator.now }
+    ensures settled { result ≡ true → IsSettled coordinator.now }
+    ensures open { result ≡ false → IsSettled coordinator.now → ⊥ }
 {
     match coordinator.board() {
         Some(board) => has_none_open(board),
@@ -80,7 +81,8 @@ pub(crate) fn is_settled(coordinator: &Coordinator) -> bool
 }
 
 fn has_none_open(board: &Board) -> bool
-    ensures { result ≡ true → NoneOpen board.now }
+    ensures none { result ≡ true → NoneOpen board.now }
+    ensures some { result ≡ false → NoneOpen board.now → ⊥ }
 {
     match board.status() {
         Status::Working { .. } => false,

@@ -17,8 +17,6 @@ pub struct Drawing<'a> {
     pub square: u64,
     /// The most pixels that the picture is high; none where cells are squares.
     pub height: Option<u64>,
-    /// Whether the picture is a PNG, in place of an SVG.
-    pub png: bool,
     /// The folder in which the pictures are files; none where one picture is drawn, to standard output.
     pub out: Option<&'a str>,
     /// Whether a picture that is there already is replaced; else a file is only made where none is.

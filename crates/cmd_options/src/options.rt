@@ -64,7 +64,7 @@ pub enum Options<'a> {
     Join(Joining<'a>),
     /// `bb look PATH [--holdouts] [--progress]`
     Look(Looking<'a>),
-    /// `bb draw [--from T] [--steps K] [--rows R] [--width W] [--columns C] [--square P] [--height H] [--png]
+    /// `bb draw [--from T] [--steps K] [--rows R] [--width W] [--columns C] [--square P] [--height H]
     /// [--out DIR [--replace]]`
     Draw(Drawing<'a>),
     /// `bb page FILE [--title TITLE] [--progress]` or `bb page --table [--title TITLE]`

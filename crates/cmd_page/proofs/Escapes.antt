@@ -1,11 +1,11 @@
--- A text that is escaped has no byte that ends a text, and stands for one text alone.
+-- A text that is escaped has no byte that ends a text, and stands for one text alone; in JSON within a page no tag begins.
 use Rattle.std.proofs.Common.{◌≡◌, ◌⊎◌, inl, inr, ℕ, ◌<◌, Bool, true, false, not, ◌&&◌, ◌||◌, cond, eqb, List, [], ◌∷◌, ◌++◌, length, get_or, refl, sym, ◌∙◌, ap, subst, arith}
 use Rattle.std.specs.List.{Contains, AllPass}
 use Rattle.std.proofs.lemmas.Bool.{cases_eq, ne_eqb}
 use Rattle.std.proofs.lemmas.List.{append_cancel_left}
 use Rattle.std.proofs.lemmas.List.Elements.{All-append, All-contains}
 use Rattle.std.proofs.lemmas.List.Sums.{AllPass-from_list_all}
-use Rattle.cmd_page.specs.Escaped.{entity, escaped, EndsText}
+use Rattle.cmd_page.specs.Escaped.{embedded, entity, escaped, inner_byte, EndsText}
 
 -- a byte for which something else stands, and one that stands as it is
 abbrev IsSpecial : ℕ → Type 0
@@ -121,3 +121,29 @@ escaped_one (x ∷ a) (y ∷ b) same =
     let first : x ≡ y = sym (first_of_entity x (escaped a)) ∙ (ap first_byte same ∙ first_of_entity y (escaped b)) in
     let rest : escaped a ≡ escaped b = append_cancel_left (entity y) (escaped a) (escaped b) (subst (λ (z : ℕ). entity z ++ escaped a ≡ entity y ++ escaped b) first same) in
     ap (λ (z : ℕ). z ∷ a) first ∙ ap (λ (l : List ℕ). y ∷ l) (escaped_one a b rest)
+
+-- a byte with which no tag begins
+abbrev begins_none : ℕ → Bool
+begins_none x = not (eqb x 60)
+
+inner_begins_none : (b : ℕ) → AllPass begins_none (inner_byte b)
+unfolding inner_byte
+inner_begins_none b = elim (cases_eq b 38) [
+  | inl e ↦ subst (λ (x : ℕ). AllPass begins_none (inner_byte x)) (sym e) (AllPass-from_list_all begins_none (inner_byte 38) refl)
+  | inr and ↦ elim (cases_eq b 60) [
+    | inl e ↦ subst (λ (x : ℕ). AllPass begins_none (inner_byte x)) (sym e) (AllPass-from_list_all begins_none (inner_byte 60) refl)
+    | inr less ↦
+        let stays : inner_byte b ≡ b ∷ [] = rw (ne_eqb b 38 and, ne_eqb b 60 less) refl in
+        subst (λ (l : List ℕ). AllPass begins_none l) (sym stays)
+        (AllPass-from_list_all begins_none (b ∷ []) (ap (λ (v : Bool). not v && true) (ne_eqb b 60 less)))
+  ]
+]
+
+embedded_begins_none : (json : List ℕ) → AllPass begins_none (embedded json)
+embedded_begins_none [] = AllPass-from_list_all begins_none [] refl
+embedded_begins_none (b ∷ json) = All-append (λ x. begins_none x ≡ true) (inner_byte b) (embedded json) (inner_begins_none b) (embedded_begins_none json)
+
+pub embedded_plain : (json : List ℕ) → Contains (embedded json) 60 → ⊥
+embedded_plain json at =
+    let none : false ≡ true = All-contains (λ x. begins_none x ≡ true) (embedded json) 60 (embedded_begins_none json) at in
+    absurd (cc)

@@ -1,16 +1,11 @@
 pub mod EntryLaws
 pub mod Escapes
-pub mod TableTexts
 pub mod Counted
 pub mod Powers
-pub mod FigureLaws
 pub mod PageLaws
-pub mod Digits
-pub mod NextStates
-pub mod Last
 pub mod Listing
 pub mod PageTold
 pub mod Pieces
 pub mod Appending
-pub mod RowLaws
+pub mod Rows
 pub mod FeedingBoth

@@ -38,7 +38,7 @@ page_told title version program roots sum Finds folder said new_said faults new_
       are_parts = is.are_parts;
       tells = record {
         text = told.text;
-        is_text = counted_page (heading_of title version program sum) whole.trunk.root rs Nothing told.text census (exact_census rs census gathered.counts (few parts is)) is.trunk_is.is_table.limit told.is_text;
+        is_text = counted_page (heading_of title version program sum) whole.trunk.root rs Nothing told.text census (exact_census rs census gathered.counts (few parts is)) told.is_text;
         says = told.says;
         status = told.status;
         stands = told.stands;

@@ -1,9 +1,6 @@
--- How a text stands in HTML, between tags and within quotes. Bytes are their ASCII codes: 34 `"`, 38 `&`, 39 `'`, 60 `<`,
--- 62 `>`.
+-- How a text stands in HTML, between tags and within quotes, and how JSON stands within a page. Bytes are their ASCII
+-- codes: 34 `"`, 38 `&`, 39 `'`, 60 `<`, 62 `>`.
 use Rattle.std.specs.Prelude.{◌≡◌, ◌⊎◌, ℕ, ◌==◌, if◌then◌else◌, List, [], ◌∷◌, flat_map, codes}
-use Rattle.std.specs.List.{concat}
-use Rattle.machine_text.specs.Packed.{Packed}
-use Rattle.machine_text.specs.Text.{text_of}
 
 -- what stands for a byte
 unfoldable pub entity : ℕ → List ℕ
@@ -23,6 +20,14 @@ escaped text = flat_map entity text
 abbrev pub EndsText : ℕ → Type 0
 EndsText byte = (byte ≡ 34) ⊎ ((byte ≡ 39) ⊎ ((byte ≡ 60) ⊎ (byte ≡ 62)))
 
--- a table, whose text needs no escaping
-unfoldable pub code_html : Packed → List ℕ
-code_html t = concat (codes "<code>" ∷ text_of t ∷ codes "</code>" ∷ [])
+-- what stands for a byte of JSON: its number, as JSON has it within its texts, where a tag, a comment or an entity could
+-- begin
+unfoldable pub inner_byte : ℕ → List ℕ
+inner_byte byte =
+    if byte == 38 then codes "\\u0026"
+    else if byte == 60 then codes "\\u003c"
+    else byte ∷ []
+
+-- and for a text of it
+abbrev pub embedded : List ℕ → List ℕ
+embedded json = flat_map inner_byte json

@@ -1,10 +1,9 @@
--- What a page is made from, in rows of its first table, so that it can be cited.
+-- What a page is made from, in rows of a table, so that it can be cited.
 use Rattle.std.specs.Prelude.{ℕ, List, [], ◌∷◌, Option, Some, None, codes}
 use Rattle.std.specs.List.{concat}
 use Rattle.hex.specs.Hex.{encode_lower}
 use Rattle.cmd_page.specs.Escaped.{escaped}
-use Rattle.cmd_page.specs.declared.heading.TheConstants.{MADE_BY, SUM, SUM_END}
-use Rattle.cmd_page.specs.declared.markup.TheConstants.{ROW, ROW_END}
+use Rattle.cmd_page.specs.declared.heading.TheConstants.{MADE_BY, MADE_BY_END, ROW, SUM, SUM_END}
 use Rattle.cmd_page.specs.declared.heading.LedgerSum.{LedgerSum}
 use Rattle.cmd_page.specs.declared.heading.LedgerSum.TheVariants.{NoLedger, Ledger, Folder}
 
@@ -37,7 +36,7 @@ ledgers_html (Folder sum) = sum_html (codes "SHA-256 of the list of its ledgers"
 
 -- the program's version
 unfoldable pub version_html : List ℕ → List ℕ
-version_html version = concat (MADE_BY.now ∷ escaped version ∷ ROW_END.now ∷ [])
+version_html version = concat (MADE_BY.now ∷ escaped version ∷ MADE_BY_END.now ∷ [])
 
 unfoldable pub origin_html : Headed → List ℕ
 origin_html h = concat (version_html h.version ∷ program_html h.program ∷ ledgers_html h.ledgers ∷ [])

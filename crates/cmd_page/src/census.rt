@@ -1,12 +1,12 @@
 // How many records there are of each kind, of tables with so many entries, and of tables that halt in so many steps.
 ghost use Rattle.std.specs.Prelude.{◌≡◌, ℕ, ◌+◌, ◌-◌, ◌^◌, ◌<◌, ◌==◌, if◌then◌else◌, slice_index, length, IsTrue};
 ghost use Rattle.cert.specs.Kinds.{claim_of};
-ghost use Rattle.cmd_page.specs.Census.{AreMore, halts_from, letter_of, reaches};
+ghost use Rattle.cmd_page.specs.Census.{AreMore, entry_count, halts_from, letter_of, reaches};
 ghost use Rattle.cmd_page.specs.inside.{IsCensus};
 
-use crate::entries::entry_count;
 use cert::Certificate;
 use ledger::{Board, Records};
+use machine_text::Table;
 
 /// How many records there are: of each kind, by its letter; of tables with so many entries, by that number; and of tables
 /// that halt in 2^k steps or more and in fewer than 2^(k + 1), by k.
@@ -126,4 +126,13 @@ fn letter_of(certificate: &Certificate<'_>) -> usize
     ensures byte { result < 256 }
 {
     certificate.letter()[0] as usize
+}
+
+// How many of a table's pairs have an entry.
+#[tactic(auto, using(crate::proofs::EntryLaws::entries_and_holes))]
+fn entry_count(t: &Table) -> u8
+    ensures count { result ≡ entry_count t.now }
+    ensures few { result < 15 }
+{
+    2 * t.states() - t.undefined_count()
 }

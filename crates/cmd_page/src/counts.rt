@@ -1,90 +1,95 @@
-// The rows of what is counted.
-ghost use Rattle.std.specs.Prelude.{◌≡◌, ◌++◌, ◌≤◌, decimal, slice_index, OnOk};
-ghost use Rattle.machine_text.specs.Limits.{state_limit};
-ghost use Rattle.cmd_page.specs.Page.{census_html, entries_html, kind_html, kinds_html, means_html, where_some};
-ghost use Rattle.cmd_page.specs.Row.{count_html};
+// What a page counts beside its report, as a JSON object of its own.
+ghost use Rattle.std.specs.Prelude.{◌≡◌, ◌++◌, length, slice_index, OnOk};
+ghost use Rattle.cmd_page.specs.Counting.{census_numbers};
+ghost use Rattle.cmd_page.specs.Counts.{comma, counts_json, item_json, kind_json, kinds_json, left_json, numbers_json, rest_json};
 
 use crate::census::Census;
-use crate::kind_words::kind_words;
-use crate::rows::{append_count, append_numbered};
-use crate::style::{ENTRIES, KINDS, ROWS_END};
-use cmd_options::{LETTERS, kind_label};
+use cmd_options::LETTERS;
 use kind_evidence::NoMemory;
-use std::io::Write;
+use ledger::Left;
+use text::append_number;
 
-// Appends what is counted of the records of a board, of which there are so many and whose tables have so many states,
-// where there are records.
-#[tactic(auto, unfolding(crate::specs::Page::census_html))]
-pub(crate) fn append_census(
-    states: u8,
-    total: u64,
-    census: &Census,
-    out: &mut Vec<u8>,
-) -> Result<(), NoMemory>
-    requires { states ≤ state_limit }
-    ensures { OnOk result (out.new.items ≡ out.old.items ++ where_some total
-        (census_html states total (slice_index census.now.kinds) (slice_index census.now.entries))) }
+// Appends the object of a census, and of what wasn't kept of a ledger.
+#[tactic(auto, unfolding(crate::specs::Counts::counts_json))]
+pub(crate) fn append_counts(census: &Census, left: &Left, out: &mut Vec<u8>) -> Result<(), NoMemory>
+    ensures { OnOk result (out.new.items ≡ out.old.items ++ counts_json (census_numbers census.now) left.now) }
 {
-    if total == 0 {
-        return Ok(());
-    }
-    out.extend_from_slice(KINDS)?;
-    append_kinds(total, &census.kinds, out)?;
-    out.extend_from_slice(ENTRIES)?;
-    append_entries(states, &census.entries, out)?;
-    out.extend_from_slice(ROWS_END)
+    out.extend_from_slice(b"{\"entries\":[")?;
+    append_numbers(&census.entries, out)?;
+    out.extend_from_slice(b"],\"left\":")?;
+    append_left(left, out)?;
+    append_rest(census, out)
 }
 
-// Appends the rows of each kind.
-fn append_kinds(total: u64, kinds: &[u64; 256], out: &mut Vec<u8>) -> Result<(), NoMemory>
-    ensures { OnOk result (out.new.items ≡ out.old.items ++ kinds_html total (slice_index kinds.now)) }
+// Appends the members behind those.
+#[tactic(auto, unfolding(crate::specs::Counts::rest_json))]
+fn append_rest(census: &Census, out: &mut Vec<u8>) -> Result<(), NoMemory>
+    ensures { OnOk result (out.new.items ≡ out.old.items ++ rest_json (census_numbers census.now)) }
+{
+    out.extend_from_slice(b",\"steps\":[")?;
+    append_numbers(&census.steps, out)?;
+    out.extend_from_slice(b"]")?;
+    append_kinds(&census.kinds, out)?;
+    out.extend_from_slice(b"}\n")
+}
+
+// Appends from which line on a ledger isn't kept, or null.
+fn append_left(left: &Left, out: &mut Vec<u8>) -> Result<(), NoMemory>
+    ensures { OnOk result (out.new.items ≡ out.old.items ++ left_json left.now) }
+{
+    match left {
+        Left::Nothing => out.extend_from_slice(b"null"),
+        Left::From { line, .. } => append_number(*line, out),
+    }
+}
+
+// Appends numbers, with a comma between two.
+fn append_numbers(numbers: &[u64], out: &mut Vec<u8>) -> Result<(), NoMemory>
+    ensures { OnOk result (out.new.items
+        ≡ out.old.items ++ numbers_json (length numbers.now) (slice_index numbers.now)) }
+{
+    for k in 0..numbers.len() {
+        append_item(k, numbers[k], out)?;
+    }
+    Ok(())
+}
+
+// Appends the number at a place.
+#[tactic(auto, unfolding(crate::specs::Counts::item_json))]
+fn append_item(place: usize, n: u64, out: &mut Vec<u8>) -> Result<(), NoMemory>
+    ensures { OnOk result (out.new.items ≡ out.old.items ++ item_json place n) }
+{
+    append_comma(place, out)?;
+    append_number(n, out)
+}
+
+// Appends a comma, except before the first.
+fn append_comma(place: usize, out: &mut Vec<u8>) -> Result<(), NoMemory>
+    ensures { OnOk result (out.new.items ≡ out.old.items ++ comma place) }
+{
+    if place == 0 {
+        return Ok(());
+    }
+    out.extend_from_slice(b",")
+}
+
+// Appends how many there are of each kind, by its letter.
+fn append_kinds(kinds: &[u64; 256], out: &mut Vec<u8>) -> Result<(), NoMemory>
+    ensures { OnOk result (out.new.items ≡ out.old.items ++ kinds_json (slice_index kinds.now)) }
 {
     for letter in LETTERS {
-        append_kind(total, kinds[*letter as usize], *letter, out)?;
+        append_kind(*letter, kinds[*letter as usize], out)?;
     }
     Ok(())
 }
 
-// Appends the rows of a kind, where there are records of it.
-fn append_kind(total: u64, n: u64, letter: u8, out: &mut Vec<u8>) -> Result<(), NoMemory>
-    ensures { OnOk result (out.new.items ≡ out.old.items ++ kind_html total n letter) }
+// Appends how many there are of the kind of a letter.
+#[tactic(auto, unfolding(crate::specs::Counts::kind_json))]
+fn append_kind(letter: u8, n: u64, out: &mut Vec<u8>) -> Result<(), NoMemory>
+    ensures { OnOk result (out.new.items ≡ out.old.items ++ kind_json letter n) }
 {
-    if n == 0 {
-        return Ok(());
-    }
-    append_count(kind_label(letter), n, out)?;
-    append_means(total, n, kind_words(letter), out)
-}
-
-// Appends what a kind is, beneath how large a share of all records is.
-#[tactic(auto, unfolding(crate::specs::Page::means_html))]
-fn append_means(total: u64, n: u64, words: &str, out: &mut Vec<u8>) -> Result<(), NoMemory>
-    ensures { OnOk result (out.new.items ≡ out.old.items ++ means_html total n words.now) }
-{
-    write!(
-        out,
-        "<tr><td class='means' colspan='2'><meter max='{total}' value='{n}'></meter>{words}</td></tr>\n"
-    )
-    .map_err(|_| NoMemory)
-}
-
-// Appends a row for each number of entries, where there are records of such tables.
-fn append_entries(states: u8, entries: &[u64; 15], out: &mut Vec<u8>) -> Result<(), NoMemory>
-    requires { states ≤ state_limit }
-    ensures { OnOk result (out.new.items ≡ out.old.items ++ entries_html states (slice_index entries.now)) }
-{
-    for k in 0..2 * states as usize + 1 {
-        append_entry(k as u64, entries[k], out)?;
-    }
-    Ok(())
-}
-
-// Appends the row of a number of entries, where there are records of such tables.
-fn append_entry(entries: u64, n: u64, out: &mut Vec<u8>) -> Result<(), NoMemory>
-    ensures { OnOk result (out.new.items ≡ out.old.items ++ where_some n (count_html (decimal entries) n)) }
-{
-    if n == 0 {
-        return Ok(());
-    }
-    append_numbered(entries, n, out)
+    out.extend_from_slice(b",\"")?;
+    out.push(letter)?;
+    out.extend_from_slice(b"\":")?;
+    append_number(n, out)
 }

@@ -1,10 +1,8 @@
-// Text in HTML.
+// Text in HTML, and JSON within a page.
 ghost use Rattle.std.specs.Prelude.{◌≡◌, ◌++◌, OnOk};
-ghost use Rattle.cmd_page.specs.Escaped.{entity, escaped};
+ghost use Rattle.cmd_page.specs.Escaped.{embedded, entity, escaped, inner_byte};
 
 use kind_evidence::NoMemory;
-use machine_text::{TEXT_BYTES, Table};
-use std::fmt;
 
 /// Appends a text as it stands in HTML, whatever its bytes.
 pub(crate) fn append_escaped(text: &[u8], out: &mut Vec<u8>) -> Result<(), NoMemory>
@@ -31,24 +29,24 @@ fn append_entity(byte: u8, out: &mut Vec<u8>) -> Result<(), NoMemory>
     }
 }
 
-/// A table's text as code. It needs no escaping.
-#[derive(Clone, Copy)]
-pub(crate) struct Code<'a>(pub(crate) &'a Table);
+/// Appends JSON as it stands within a page, where it says the same, and no tag or comment begins.
+pub(crate) fn append_embedded(json: &[u8], out: &mut Vec<u8>) -> Result<(), NoMemory>
+    ensures { OnOk result (out.new.items ≡ out.old.items ++ embedded json.now) }
+{
+    for byte in json {
+        append_inner(*byte, out)?;
+    }
+    Ok(())
+}
 
-impl fmt::Display for Code<'_> {
-    ghost use Rattle.std.specs.Prelude.{Some};
-    ghost use Rattle.cmd_page.specs.Escaped.{code_html};
-
-    ghost output = { λ code. Some (code_html code.0.now) };
-
-    #[tactic(auto, unfolding(crate::specs::Escaped::code_html))]
-    fn fmt<W: fmt::Write>(&self, f: &mut fmt::Formatter<W>) -> fmt::Result {
-        // The proof needs that it is a table.
-        let _ = self.0.states();
-        let mut buf = [0; TEXT_BYTES];
-        match str::from_utf8(self.0.text(&mut buf)) {
-            Ok(text) => write!(f, "<code>{text}</code>"),
-            Err(_) => unreachable!(),
-        }
+// Appends what stands for a byte of JSON.
+#[tactic(auto, unfolding(crate::specs::Escaped::inner_byte))]
+fn append_inner(byte: u8, out: &mut Vec<u8>) -> Result<(), NoMemory>
+    ensures { OnOk result (out.new.items ≡ out.old.items ++ inner_byte byte) }
+{
+    match byte {
+        b'&' => out.extend_from_slice(b"\\u0026"),
+        b'<' => out.extend_from_slice(b"\\u003c"),
+        _ => Ok(out.push(byte)?),
     }
 }

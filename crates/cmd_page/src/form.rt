@@ -1,8 +1,7 @@
 // A page as a form of a report.
 use crate::census::Census;
 use crate::heading::Heading;
-use crate::making::{MadePage, told_page};
-use crate::writing::write_made;
+use crate::making::page_of;
 use cmd_ledgers::{ReportForm, Told};
 use kind_evidence::NoMemory;
 use ledger::Left;
@@ -21,19 +20,18 @@ pub(crate) struct Page<'a> {
 impl ReportForm for Page<'_> {
     ghost use Rattle.cmd_page.specs.Counting.{census_numbers};
     ghost use Rattle.cmd_page.specs.Page.{IsPageWith};
-    ghost use Rattle.cmd_page.specs.inside.{bytes_of_page};
 
-    type Made = MadePage;
+    type Made = Vec<u8>;
 
     ghost is_text = { λ page. IsPageWith (census_numbers page.census.now) page.heading.now };
 
-    ghost bytes = { bytes_of_page };
+    ghost bytes = { λ page. page.items };
 
-    fn make(&self, alloc: Global, told: Told, left: &Left) -> Result<MadePage, NoMemory> {
-        told_page(alloc, self.heading, self.census, told, left)
+    fn make(&self, alloc: Global, told: Told, left: &Left) -> Result<Vec<u8>, NoMemory> {
+        page_of(alloc, self.heading, self.census, told, left)
     }
 
-    fn write<W: Write>(&self, made: MadePage, answers: &mut W) -> io::Result<()> {
-        write_made(made, answers)
+    fn write<W: Write>(&self, made: Vec<u8>, answers: &mut W) -> io::Result<()> {
+        answers.write_all(&made)
     }
 }

@@ -4,7 +4,6 @@ ghost use Rattle.cmd_page.specs.Heading.{ledgers_html, origin_html, program_html
 
 use crate::escape::append_escaped;
 use crate::listed::append_hex;
-use crate::markup::{ROW, ROW_END};
 use kind_evidence::NoMemory;
 use std::marker::Model;
 
@@ -52,10 +51,14 @@ pub enum LedgerSum {
     Folder([u8; 32]),
 }
 
-// Before the version of the program.
+// About the version of the program.
 const MADE_BY: &[u8] = b"<tr><th scope='row'>Made by</th><td>bb ";
 
-// About the digits of a sum.
+const MADE_BY_END: &[u8] = b"</td></tr>\n";
+
+// About the name and the digits of a sum.
+const ROW: &[u8] = b"<tr><th scope='row'>";
+
 const SUM: &[u8] = b"</th><td><code>";
 
 const SUM_END: &[u8] = b"</code></td></tr>\n";
@@ -77,7 +80,7 @@ fn append_version(version: &str, out: &mut Vec<u8>) -> Result<(), NoMemory>
 {
     out.extend_from_slice(MADE_BY)?;
     append_escaped(version.as_bytes(), out)?;
-    out.extend_from_slice(ROW_END)
+    out.extend_from_slice(MADE_BY_END)
 }
 
 // Appends the row of the program's sum, where it is known.

@@ -7,18 +7,18 @@ ghost use Rattle.sha2.specs.Sha256.{sha256};
 ghost use Rattle.cmd_page.specs.Heading.{ledger_heading};
 ghost use Rattle.cmd_page.specs.Page.{IsPage};
 
+use crate::census::census_of;
+use crate::form::Page;
 use crate::heading::{Heading, LedgerSum, Maker};
-use crate::making::page_of;
 use crate::summed::load_summed;
-use crate::writing::write_made;
-use cmd_ledgers::outcome_by;
+use cmd_ledgers::{outcome_by, write_report};
 use cmd_options::{Ended, Outcome, Stopped};
 use ledger::{Board, Left};
 use std::alloc::Global;
 use std::io::{Read, Write};
 
-// Writes the page of a board under a heading, and says what wasn't kept of its ledger. What grows with the number of
-// holdouts is written a piece at a time. Where memory is refused, nothing was written.
+// Writes the page of a board under a heading, and says what wasn't kept of its ledger. Where memory is refused, nothing was
+// written.
 pub(crate) fn write_page<W: Write>(
     alloc: Global,
     heading: &Heading<'_>,
@@ -30,9 +30,12 @@ pub(crate) fn write_page<W: Write>(
         × Appends (W.contents answers.old) (W.contents answers.new) text) }
     ensures err { IfErr result (λ e. ((e ≡ Ended.NoMemory) × (answers.new ≡ answers.old)) ⊎ (e ≡ Ended.Stream)) }
 {
-    let made = page_of(alloc, heading, board, left)?;
-    write_made(made, answers)?;
-    Ok(())
+    let census = census_of(board);
+    let page = Page {
+        heading,
+        census: &census,
+    };
+    write_report(alloc, &page, board, left, answers)
 }
 
 /// Writes the page of the ledger that a reader has in its first bytes, up to a limit, under a title, with the SHA-256 of these

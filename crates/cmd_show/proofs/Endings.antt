@@ -6,7 +6,6 @@ use Rattle.cmd_options.specs.Ends.{EndsTold, PrintsNothing}
 use Rattle.cmd_options.specs.Outcome.{ended_text, outcome_of}
 use Rattle.cmd_options.specs.declared.outcome.Outcome.{Outcome}
 use Rattle.cmd_options.specs.declared.outcome.Outcome.TheVariants.{NoMemory, Failed}
-use Rattle.cmd_options.specs.declared.drawing.Drawing.{Drawing}
 use Rattle.cmd_options.specs.declared.ended.Ended.{Ended}
 use Rattle.cmd_options.specs.declared.ended.Ended.TheVariants.{NoMemory as WantsMemory}
 use Rattle.cmd_lines.specs.First.{EndsSaying, WritesFirst}
@@ -26,17 +25,17 @@ nothing_drawn read new_read held new_held said warned new_said e memory (lines, 
 nothing_drawn read new_read held new_held said warned new_said e memory (lines, picks, inr cut) silent told = absurd (let stream = cut.0 in cc)
 nothing_drawn read new_read held new_held said warned new_said e memory (lines, picks, inl written) (inr stream) told = absurd cc
 
-pub told_picture : {A : Type 0} (out : Option A) (d : Drawing) (read new_read held new_held said warned new_said : Option (List ℕ)) (ended : Result Outcome Ended) (o : Outcome)
-    → IfOk ended (λ p. IfNone out (DrawsFirst d read new_read held new_held said warned p)) → IfErr ended (λ e. IfNone out (WritesFirst (PicksFirst read new_read) said warned e))
-    → IfErr ended (λ e. IfNone out (PrintsNothing e held new_held)) → IfErr ended EndsDrawing → EndsTold ended warned new_said o → IfNone out (EndsPicture d read new_read held new_held said new_said o)
-told_picture (Some folder) d read new_read held new_held said warned new_said ended o draws first silent ends told = tt
-told_picture None d read new_read held new_held said warned new_said (Ok p) o draws first silent ends (is, same) =
-    inl (subst (λ (text : Option (List ℕ)). DrawsFirst d read new_read held new_held said text o) (sym same) (subst (λ (how : Outcome). DrawsFirst d read new_read held new_held said warned how) (sym is) draws))
-told_picture None d read new_read held new_held said warned new_said (Err e) o draws first silent ends (inr cut) = inr (inr cut.0)
-told_picture None d read new_read held new_held said warned new_said (Err e) o draws first silent (inl memory) (inl so) =
+pub told_picture : {A : Type 0} (out : Option A) (read new_read held new_held said warned new_said : Option (List ℕ)) (ended : Result Outcome Ended) (o : Outcome)
+    → IfOk ended (λ p. IfNone out (DrawsFirst read new_read held new_held said warned p)) → IfErr ended (λ e. IfNone out (WritesFirst (PicksFirst read new_read) said warned e))
+    → IfErr ended (λ e. IfNone out (PrintsNothing e held new_held)) → IfErr ended EndsDrawing → EndsTold ended warned new_said o → IfNone out (EndsPicture read new_read held new_held said new_said o)
+told_picture (Some folder) read new_read held new_held said warned new_said ended o draws first silent ends told = tt
+told_picture None read new_read held new_held said warned new_said (Ok p) o draws first silent ends (is, same) =
+    inl (subst (λ (text : Option (List ℕ)). DrawsFirst read new_read held new_held said text o) (sym same) (subst (λ (how : Outcome). DrawsFirst read new_read held new_held said warned how) (sym is) draws))
+told_picture None read new_read held new_held said warned new_said (Err e) o draws first silent ends (inr cut) = inr (inr cut.0)
+told_picture None read new_read held new_held said warned new_said (Err e) o draws first silent (inl memory) (inl so) =
     inr (inl (so.0 ∙ ap outcome_of memory, nothing_drawn read new_read held new_held said warned new_said e memory first silent so.1))
-told_picture None d read new_read held new_held said warned new_said (Err e) o draws first silent (inr (inl stream)) (inl so) = inr (inr (so.0 ∙ ap outcome_of stream))
-told_picture None d read new_read held new_held said warned new_said (Err e) o draws first silent (inr (inr file)) (inl so) = inr (inr (so.0 ∙ ap outcome_of file))
+told_picture None read new_read held new_held said warned new_said (Err e) o draws first silent (inr (inl stream)) (inl so) = inr (inr (so.0 ∙ ap outcome_of stream))
+told_picture None read new_read held new_held said warned new_said (Err e) o draws first silent (inr (inr file)) (inl so) = inr (inr (so.0 ∙ ap outcome_of file))
 
 -- what ends the drawing of lines early ends in want of memory or a failure
 either : (ended : Result Outcome Ended) → IfErr ended EndsDrawing → IfErr ended (λ e. (outcome_of e ≡ NoMemory) ⊎ (outcome_of e ≡ Failed))

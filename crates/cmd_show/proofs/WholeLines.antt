@@ -1,5 +1,5 @@
 -- Whole lines that are gathered and written.
-use Rattle.std.proofs.Common.{◌≡◌, ◌⊎◌, inl, inr, ℕ, List, [], ◌∷◌, ◌++◌, Option, Result, Ok, Err, IfOk, IfErr, sym, ◌∙◌, ap, subst, refl, append_assoc, append-nil}
+use Rattle.std.proofs.Common.{◌≡◌, ◌⊎◌, inl, inr, ℕ, List, [], ◌∷◌, ◌++◌, Option, Result, Ok, Err, IfOk, IfErr, OnOk, sym, ◌∙◌, ap, subst, refl, append_assoc, append-nil}
 use Rattle.std.proofs.KnownBytes.{Appends-nil, Appends-trans}
 use Rattle.std.specs.Io.KnownBytes.{Appends}
 use Rattle.cmd_options.specs.Ends.{EndsTold}
@@ -41,3 +41,8 @@ told_lines (Ok x) held new_held faults new_faults o lines err told = inl lines
 told_lines (Err e) held new_held faults new_faults o lines (inl none) (inl (is, said)) = inr (inl (is ∙ ap outcome_of none))
 told_lines (Err e) held new_held faults new_faults o lines (inr lost) (inl (is, said)) = inr (inr (is ∙ ap outcome_of lost))
 told_lines (Err e) held new_held faults new_faults o lines err (inr (is, cut)) = inr (inr is)
+
+-- what holds once a call has come to its end
+pub ok_then : {A E : Type 0} (r : Result A E) {P Q : Type 0} → (P → Q) → OnOk r P → OnOk r Q
+ok_then (Ok a) f p = f p
+ok_then (Err e) f p = tt

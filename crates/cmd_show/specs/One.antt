@@ -5,12 +5,11 @@ use Rattle.machine_text.specs.Packed.{Packed}
 use Rattle.text.specs.Lines.{BoundedLine}
 use Rattle.cert.specs.declared.record_fault.RecordFault.{RecordFault}
 use Rattle.cmd_lines.specs.Answer.{fault_text}
-use Rattle.cmd_options.specs.declared.drawing.Drawing.{Drawing}
 use Rattle.cmd_options.specs.declared.outcome.Outcome.{Outcome}
 use Rattle.cmd_options.specs.declared.outcome.Outcome.TheVariants.{Accepted, Refused, NoMemory, Failed}
 use Rattle.cmd_show.specs.declared.one.First.{First}
 use Rattle.cmd_show.specs.Asked.{table_asked}
-use Rattle.cmd_show.specs.Picture.{IsPicture}
+use Rattle.cmd_show.specs.Picture.{IsPictureOf}
 use Rattle.cmd_lines.specs.First.{IsSaidToFirst}
 use Rattle.cmd_lines.specs.Said.{TakesStream}
 use Rattle.cmd_options.specs.Outcome.{ended_text}
@@ -30,16 +29,16 @@ abbrev pub Picks : First → BoundedLine → Outcome → First → List ℕ → 
 Picks old line o new said = PicksAsked (table_asked line) old.table o new.table said
 
 -- the picture of the table, if there is one, is written behind what a writer held
-abbrev pub WritesPicture : Drawing → Option Packed → Option (List ℕ) → Option (List ℕ) → Type 0
-WritesPicture d None held new_held = new_held ≡ held
-WritesPicture d (Some t) held new_held = (picture : List ℕ) × IsPicture d t picture × Appends held new_held picture
+abbrev pub WritesPicture : Option Packed → Option (List ℕ) → Option (List ℕ) → Type 0
+WritesPicture None held new_held = new_held ≡ held
+WritesPicture (Some t) held new_held = (picture : List ℕ) × IsPictureOf t picture × Appends held new_held picture
 
 -- a reader is read to its end; the picture of the first table is written, and what is said to the lines beside it
-pub record DrawsFirst (d : Drawing) (read new_read held new_held said new_said : Option (List ℕ))
+pub record DrawsFirst (read new_read held new_held said new_said : Option (List ℕ))
     (o : Outcome) : Type 0 where
   pub first : First
   pub takes : TakesStream Picks (record { table = None }) first read new_read said new_said o
-  pub writes : WritesPicture d first.table held new_held
+  pub writes : WritesPicture first.table held new_held
 
 -- this is what is said to the first lines of what was read
 abbrev pub PicksFirst : Option (List ℕ) → Option (List ℕ) → List ℕ → Type 0
@@ -53,8 +52,8 @@ pub record DrawsNothing (read new_read held new_held said new_said : Option (Lis
   pub kept : new_held ≡ held
 
 -- how the drawing of one picture ends
-abbrev pub EndsPicture : Drawing → Option (List ℕ) → Option (List ℕ) → Option (List ℕ) → Option (List ℕ)
+abbrev pub EndsPicture : Option (List ℕ) → Option (List ℕ) → Option (List ℕ) → Option (List ℕ)
     → Option (List ℕ) → Option (List ℕ) → Outcome → Type 0
-EndsPicture d read new_read held new_held said new_said o =
-    DrawsFirst d read new_read held new_held said new_said o
+EndsPicture read new_read held new_held said new_said o =
+    DrawsFirst read new_read held new_held said new_said o
     ⊎ (((o ≡ NoMemory) × DrawsNothing read new_read held new_held said new_said) ⊎ (o ≡ Failed))

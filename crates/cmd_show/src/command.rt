@@ -25,12 +25,12 @@ pub fn cmd_draw<H: Files, R: Read, W: Write, E: Write>(
     answers: &mut W,
     faults: &mut E,
 ) -> Outcome
-    ensures first { IfNone drawing.now.out (EndsPicture drawing.now (R.remaining input.old) (R.remaining input.new)
+    ensures first { IfNone drawing.now.out (EndsPicture (R.remaining input.old) (R.remaining input.new)
         (W.contents answers.old) (W.contents answers.new) (E.contents faults.old) (E.contents faults.new) result) }
     ensures files { IfSome drawing.now.out (λ folder. EndsSaying
-        (DrawsFiles H.tells_same H.holds folder.now drawing.now host.old (R.remaining input.old) (R.remaining input.new)
+        (DrawsFiles H.tells_same H.holds folder.now host.old (R.remaining input.old) (R.remaining input.new)
         (W.contents answers.old) (W.contents answers.new))
-        (DrawsFirstLines H.tells_same H.holds folder.now drawing.now host.old (R.remaining input.old)
+        (DrawsFirstLines H.tells_same H.holds folder.now host.old (R.remaining input.old)
         (R.remaining input.new)) (W.contents answers.old) (W.contents answers.new) result) }
     ensures stays { IfNone drawing.now.out (host.new ≡ host.old) }
 {
@@ -50,17 +50,17 @@ fn draw_asked<H: Files, R: Read, W: Write, E: Write>(
     faults: &mut E,
 ) -> Result<Outcome, Ended>
     ensures first { IfOk result (λ o. IfNone drawing.now.out
-        (DrawsFirst drawing.now (R.remaining input.old) (R.remaining input.new) (W.contents answers.old)
+        (DrawsFirst (R.remaining input.old) (R.remaining input.new) (W.contents answers.old)
         (W.contents answers.new) (E.contents faults.old) (E.contents faults.new) o)) }
     ensures files { IfOk result (λ o. IfSome drawing.now.out
-        (λ folder. DrawsFiles H.tells_same H.holds folder.now drawing.now host.old (R.remaining input.old)
+        (λ folder. DrawsFiles H.tells_same H.holds folder.now host.old (R.remaining input.old)
         (R.remaining input.new) (W.contents answers.old) (W.contents answers.new) o)) }
     ensures first_picks { IfErr result (λ e. IfNone drawing.now.out (WritesFirst (PicksFirst (R.remaining input.old)
         (R.remaining input.new)) (E.contents faults.old) (E.contents faults.new) e)) }
     ensures silent { IfErr result (λ e. IfNone drawing.now.out
         (PrintsNothing e (W.contents answers.old) (W.contents answers.new))) }
     ensures first_files { IfErr result (λ e. IfSome drawing.now.out (λ folder. WritesFirst (DrawsFirstLines H.tells_same
-        H.holds folder.now drawing.now host.old (R.remaining input.old) (R.remaining input.new))
+        H.holds folder.now host.old (R.remaining input.old) (R.remaining input.new))
         (W.contents answers.old) (W.contents answers.new) e)) }
     ensures stays { IfNone drawing.now.out (host.new ≡ host.old) }
     ensures err { IfErr result EndsDrawing }

@@ -1,84 +1,70 @@
 // A picture as an SVG document.
-ghost use Rattle.std.specs.Prelude.{◌≡◌, ◌++◌, ◌+◌, ◌<◌, ◌≤◌, ◌^◌, List, IfOk, OnOk};
+ghost use Rattle.std.specs.Prelude.{◌≡◌, ◌+◌, ◌*◌, ◌++◌, ◌<◌, ◌≤◌, ◌^◌, IfOk, OnOk};
 ghost use Rattle.machine_text.specs.Limits.{state_limit};
-ghost use Rattle.machine_text.specs.Packed.{entry_of};
-ghost use Rattle.cmd_show.specs.Rows.{Shown, AreRows};
-ghost use Rattle.cmd_show.specs.Svg.{body_svg, closing, columns_svg, document, frame_svg, group_svg, halting_svg, opening, svg_text};
-ghost use Rattle.cmd_show.specs.Times.{AreWithinRuns};
+ghost use Rattle.cmd_show.specs.Picture.{IsPictureOf, document, heading, opening};
 
-use crate::drawn::{Drawn, Head};
+use crate::drawn::{Drawn, Head, append_columns};
 use crate::pixels::Pixels;
-use crate::rows::Rows;
-use crate::size::Size;
-use crate::states::{append_heads, append_legend};
 use crate::style::STYLE;
-use crate::times::Times;
-use crate::view::View;
 use machine_text::{TEXT_BYTES, Table};
 use std::alloc::{AllocError as NoMemory, Global};
 use std::io::Write;
 
-/// The picture of a table's run from the blank tape, as the text of an SVG document. Its title is the table's text, and
-/// beneath it stands which colour is which state.
-pub fn svg(
+// The document of what is drawn of a table, in so many pixels. Its title is the table's text; a line beneath the last row
+// says that the machine halts there, and beneath that stands which colour is which state.
+pub(crate) fn picture(
     alloc: Global,
-    t: Table,
-    view: View,
-    times: Times,
-    size: Size,
+    t: &Table,
+    drawn: &Drawn,
+    pixels: Pixels,
 ) -> Result<Vec<u8>, NoMemory>
-    requires times { AreWithinRuns times }
-    requires share { 0 < view.share }
-    ensures { IfOk result (λ text. (rows : List Shown) × AreRows (entry_of t) view times 0 rows
-        × (text.items ≡ svg_text t view size rows)) }
+    requires width { drawn.now.columns * pixels.across < 2 ^ 64 }
+    requires height { drawn.now.rows * pixels.down + 65536 ≤ 2 ^ 64 }
+    ensures { IfOk result (λ text. IsPictureOf t.now text.items) }
 {
-    let columns = view.columns();
-    let mut rows = Rows::new(alloc, t, view, times)?;
-    let drawn = Drawn::of(alloc, &mut rows, columns)?;
-    let pixels = size.pixels(columns, rows.number());
-    let width = pixels.width(columns, t.states());
-    let height = pixels.height(rows.number());
+    let states = t.states();
+    let width = (drawn.columns * pixels.across).max(32 * u64::from(states));
+    let height = drawn.rows * pixels.down;
+    let mut body = Vec::new(alloc);
+    append_rows(states, pixels, drawn, &mut body)?;
+    append_halting(pixels, drawn, &mut body)?;
+    append_legend(height + 8, states, &mut body)?;
     let mut text = Vec::new(alloc);
-    append_document(&t, pixels, width, height, &drawn, &mut text)?;
+    append_document(t, width, height + 24, &body, &mut text)?;
     Ok(text)
 }
 
-// Appends the document of what is drawn.
-#[tactic(auto, unfolding(crate::specs::Svg::document))]
+// Appends the document of a table that is so wide and so high, around what is drawn.
+#[tactic(auto, unfolding(crate::specs::Picture::document))]
 fn append_document(
     t: &Table,
-    pixels: Pixels,
     width: u64,
     height: u64,
-    drawn: &Drawn,
+    drawn: &[u8],
     out: &mut Vec<u8>,
 ) -> Result<(), NoMemory>
-    requires { height + 65536 ≤ 2 ^ 64 }
-    ensures { OnOk result (out.new.items ≡ out.old.items ++ document t.now pixels width height drawn.now.dark.items
-        drawn.now.pale.items drawn.now.heads.items drawn.now.line.items) }
+    ensures { OnOk result (out.new.items ≡ out.old.items ++ document t.now width height drawn.now) }
 {
-    let states = t.states();
-    append_opening(t, width, height, out)?;
-    append_body(states, pixels, &drawn.dark, &drawn.pale, &drawn.heads, out)?;
-    append_closing(states, pixels, height, &drawn.line, out)
+    append_heading(t, width, height, out)?;
+    out.extend_from_slice(drawn)?;
+    out.extend_from_slice(b"</svg>\n")
 }
 
-// Appends what stands before the columns, of a document that is so wide, and has rows that are so high.
-#[tactic(auto, unfolding(crate::specs::Svg::opening))]
-fn append_opening(t: &Table, width: u64, height: u64, out: &mut Vec<u8>) -> Result<(), NoMemory>
-    requires { height + 65536 ≤ 2 ^ 64 }
-    ensures { OnOk result (out.new.items ≡ out.old.items ++ opening t.now width height) }
+// Appends what stands before the rows.
+#[tactic(auto, unfolding(crate::specs::Picture::heading))]
+fn append_heading(t: &Table, width: u64, height: u64, out: &mut Vec<u8>) -> Result<(), NoMemory>
+    ensures { OnOk result (out.new.items ≡ out.old.items ++ heading t.now width height) }
 {
-    let mut buf = [0; TEXT_BYTES];
-    append_frame(width, height + 24, out)?;
-    out.extend_from_slice(t.text(&mut buf))?;
+    let mut buffer = [0; TEXT_BYTES];
+    append_opening(width, height, out)?;
+    out.extend_from_slice(t.text(&mut buffer))?;
     out.extend_from_slice(STYLE)
 }
 
-// Appends the beginning of a document that is so wide and so high.
-#[tactic(auto, unfolding(crate::specs::Svg::frame_svg))]
-fn append_frame(width: u64, height: u64, out: &mut Vec<u8>) -> Result<(), NoMemory>
-    ensures { OnOk result (out.new.items ≡ out.old.items ++ frame_svg width height) }
+// Appends the beginning of a document that is so wide and so high, up to its title.
+#[tactic(auto, unfolding(crate::specs::Picture::opening))]
+fn append_opening(width: u64, height: u64, out: &mut Vec<u8>) -> Result<(), NoMemory>
+    ensures { OnOk result (out.new.items ≡ out.old.items ++ opening width height) }
 {
     write!(
         out,
@@ -89,77 +75,77 @@ fn append_frame(width: u64, height: u64, out: &mut Vec<u8>) -> Result<(), NoMemo
 }
 
 // Appends the columns, and the heads over them, in a group in which a column and a row are one unit each.
-#[tactic(auto, unfolding(crate::specs::Svg::body_svg))]
-fn append_body(
+fn append_rows(
     states: u8,
     pixels: Pixels,
-    dark: &[u8],
-    pale: &[u8],
-    heads: &[Head],
+    drawn: &Drawn,
     out: &mut Vec<u8>,
-) -> Result<(), NoMemory>
-    ensures { OnOk result (out.new.items ≡ out.old.items ++ body_svg states pixels dark.now pale.now heads.now) }
-{
-    append_group(pixels, out)?;
-    append_columns(dark, pale, out)?;
-    append_heads(pixels.has_room(), states, heads, out)?;
-    out.extend_from_slice(b"</g>\n")
-}
-
-// Begins the group.
-#[tactic(auto, unfolding(crate::specs::Svg::group_svg))]
-fn append_group(pixels: Pixels, out: &mut Vec<u8>) -> Result<(), NoMemory>
-    ensures { OnOk result (out.new.items ≡ out.old.items ++ group_svg pixels) }
-{
+) -> Result<(), NoMemory> {
     let Pixels { across, down } = pixels;
     write!(
         out,
-        "<g transform='scale({across} {down})' shape-rendering='crispEdges'>\n"
+        "<g transform='scale({across} {down})' shape-rendering='crispEdges'>\n<path class='dark' d='"
     )
-    .map_err(|_| NoMemory)
+    .map_err(|_| NoMemory)?;
+    out.extend_from_slice(&drawn.dark)?;
+    out.extend_from_slice(b"'/>\n<path class='pale' d='")?;
+    out.extend_from_slice(&drawn.pale)?;
+    out.extend_from_slice(b"'/>\n")?;
+    for q in 0..states {
+        append_heads(q, pixels.has_room(), &drawn.heads, out)?;
+    }
+    out.extend_from_slice(b"</g>\n")
 }
 
-// Appends the dark columns and the pale ones.
-#[tactic(auto, unfolding(crate::specs::Svg::columns_svg))]
-fn append_columns(dark: &[u8], pale: &[u8], out: &mut Vec<u8>) -> Result<(), NoMemory>
-    ensures { OnOk result (out.new.items ≡ out.old.items ++ columns_svg dark.now pale.now) }
-{
-    out.extend_from_slice(b"<path class='dark' d='")?;
-    out.extend_from_slice(dark)?;
-    out.extend_from_slice(b"'/>\n<path class='pale' d='")?;
-    out.extend_from_slice(pale)?;
+// Appends the heads that are in one state.
+fn append_heads(q: u8, room: bool, heads: &[Head], out: &mut Vec<u8>) -> Result<(), NoMemory> {
+    write!(out, "<path class='s{q}' d='").map_err(|_| NoMemory)?;
+    for head in heads {
+        if head.state.0 == q {
+            append_head(room, head.column, head.row, out)?;
+        }
+    }
     out.extend_from_slice(b"'/>\n")
 }
 
-// Appends the line of halting, and the legend.
-#[tactic(auto, unfolding(crate::specs::Svg::closing))]
-fn append_closing(
-    states: u8,
-    pixels: Pixels,
-    height: u64,
-    line: &[u8],
-    out: &mut Vec<u8>,
-) -> Result<(), NoMemory>
-    requires height { height + 65536 ≤ 2 ^ 64 }
-    requires states { states ≤ state_limit }
-    ensures { OnOk result (out.new.items ≡ out.old.items ++ closing states pixels height line.now) }
-{
-    append_halting(pixels, out)?;
-    out.extend_from_slice(line)?;
-    out.extend_from_slice(b"'/>\n")?;
-    append_legend(height + 8, states, out)?;
-    out.extend_from_slice(b"</svg>\n")
+// Appends a head: the middle of its cell where that has room, so that its symbol is seen beside it; else the whole cell.
+fn append_head(room: bool, column: u64, row: u64, out: &mut Vec<u8>) -> Result<(), NoMemory> {
+    if room {
+        write!(out, "M{column}.25 {row}.25h.5v.5h-.5z").map_err(|_| NoMemory)
+    } else {
+        append_columns(column, row, 1, out)
+    }
 }
 
-// Begins the line of halting.
-#[tactic(auto, unfolding(crate::specs::Svg::halting_svg))]
-fn append_halting(pixels: Pixels, out: &mut Vec<u8>) -> Result<(), NoMemory>
-    ensures { OnOk result (out.new.items ≡ out.old.items ++ halting_svg pixels) }
-{
+// Appends the line of halting, which is empty where the machine doesn't halt.
+fn append_halting(pixels: Pixels, drawn: &Drawn, out: &mut Vec<u8>) -> Result<(), NoMemory> {
     let Pixels { across, down } = pixels;
     write!(
         out,
         "<path class='halt' transform='translate(0 1) scale({across} {down})' d='"
     )
-    .map_err(|_| NoMemory)
+    .map_err(|_| NoMemory)?;
+    if drawn.halts {
+        let Drawn { columns, rows, .. } = drawn;
+        write!(out, "M0 {rows}h{columns}").map_err(|_| NoMemory)?;
+    }
+    out.extend_from_slice(b"'/>\n")
+}
+
+// Appends each state's colour, as a square, and its letter beside that, so far from the top.
+fn append_legend(y: u64, states: u8, out: &mut Vec<u8>) -> Result<(), NoMemory>
+    requires y { y + 1000 ≤ 2 ^ 64 }
+    requires states { states ≤ state_limit }
+{
+    for q in 0..states {
+        let left = 32 * u64::from(q);
+        let (square, letter, base) = (left + 4, left + 20, y + 11);
+        let name = char::from(b'A' + q);
+        write!(
+            out,
+            "<path class='s{q}' d='M{square} {y}h12v12h-12z'/><text class='letter' x='{letter}' y='{base}'>{name}</text>\n"
+        )
+        .map_err(|_| NoMemory)?;
+    }
+    Ok(())
 }

@@ -5,8 +5,7 @@ ghost use Rattle.cmd_lines.specs.Said.{TakesStream};
 ghost use Rattle.cmd_lines.specs.Taken.{lent};
 ghost use Rattle.files.specs.Paths.{IsKept, IsToldStill};
 ghost use Rattle.cmd_show.specs.Asked.{table_asked};
-ghost use Rattle.cmd_show.specs.Files.{AnswersAsked, DrawsFiles, DrawsFirstLines, DrawsLine, DrawsTable, drawn_text, name_ending, named_path, picture_path};
-ghost use Rattle.cmd_show.specs.Placing.{PutsFile};
+ghost use Rattle.cmd_show.specs.Files.{AnswersAsked, DrawsFiles, DrawsFirstLines, DrawsLine, DrawsTable, drawn_text, named_path, picture_path};
 ghost use Rattle.cmd_show.specs.Said.{EndsDrawing};
 
 use crate::asked::table_asked;
@@ -35,9 +34,9 @@ pub fn draw_files<H: Files, R: Read, W: Write>(
     input: &mut R,
     answers: &mut W,
 ) -> Result<Outcome, Ended>
-    ensures ok { IfOk result (DrawsFiles H.tells_same H.holds folder.now drawing.now host.old (R.remaining input.old)
+    ensures ok { IfOk result (DrawsFiles H.tells_same H.holds folder.now host.old (R.remaining input.old)
         (R.remaining input.new) (W.contents answers.old) (W.contents answers.new)) }
-    ensures first { IfErr result (WritesFirst (DrawsFirstLines H.tells_same H.holds folder.now drawing.now host.old
+    ensures first { IfErr result (WritesFirst (DrawsFirstLines H.tells_same H.holds folder.now host.old
         (R.remaining input.old) (R.remaining input.new)) (W.contents answers.old) (W.contents answers.new)) }
     ensures err { IfErr result EndsDrawing }
 {
@@ -57,9 +56,9 @@ fn draw_within<H: Files, R: Read, W: Write>(
     answers: &mut W,
 ) -> Result<Outcome, Ended>
     ensures ok { IfOk result (λ o. (last : H)
-        × TakesStream (DrawsLine H.tells_same H.holds folder.now drawing.now) host.old last (R.remaining input.old)
+        × TakesStream (DrawsLine H.tells_same H.holds folder.now) host.old last (R.remaining input.old)
         (R.remaining input.new) (W.contents answers.old) (W.contents answers.new) o) }
-    ensures first { IfErr result (WritesFirst (IsSaidToFirst (DrawsLine H.tells_same H.holds folder.now drawing.now)
+    ensures first { IfErr result (WritesFirst (IsSaidToFirst (DrawsLine H.tells_same H.holds folder.now)
         host.old (R.remaining input.old) (R.remaining input.new)) (W.contents answers.old) (W.contents answers.new)) }
     ensures err { IfErr result EndsDrawing }
 {
@@ -83,14 +82,11 @@ struct Pictures<'a, H> {
 }
 
 impl<H: Files> Sayer for Pictures<'_, H> {
-    ghost use Rattle.std.specs.Prelude.{ℕ, List};
-    ghost use Rattle.cmd_options.specs.declared.drawing.Drawing.{Drawing as Asked};
     ghost use Rattle.cmd_show.specs.Files.{DrawsLine};
     ghost use Rattle.cmd_show.specs.inside.Places.{TakesBy};
     ghost use Rattle.cmd_show.specs.Said.{EndsDrawing};
 
-    ghost takes = { TakesBy {K = List ℕ × Asked} (λ p. (p.folder.now, p.drawing.now)) (λ p. p.host.now)
-        (λ kept. DrawsLine H.tells_same H.holds kept.0 kept.1) };
+    ghost takes = { TakesBy (λ p. p.folder.now) (λ p. p.host.now) (DrawsLine H.tells_same H.holds) };
 
     ghost ends = { EndsDrawing };
 
@@ -104,10 +100,10 @@ impl<H: Files> Sayer for Pictures<'_, H> {
 impl<H: Files> Pictures<'_, H> {
     // Draws the table of a line, and appends the answer.
     fn answer(&mut self, line: Option<&[u8]>, said: &mut Vec<u8>) -> Result<Outcome, Ended>
-        ensures stays { (self.new.folder ≡ self.old.folder) × (self.new.drawing ≡ self.old.drawing) }
+        ensures stays { self.new.folder ≡ self.old.folder }
         ensures still { IsToldStill (H.tells_same self.old.host.now) (H.tells_same self.new.host.now) }
         ensures ok { IfOk result (λ o. (answer : List ℕ)
-            × AnswersAsked (H.tells_same self.old.host.now) self.old.folder.now self.old.drawing.now
+            × AnswersAsked (H.tells_same self.old.host.now) self.old.folder.now
             (H.holds self.old.host.now) (table_asked (lent line.entry)) o (H.holds self.new.host.now) answer
             × (said.new.items ≡ said.old.items ++ answer)) }
         ensures err { IfErr result EndsDrawing }
@@ -127,21 +123,15 @@ impl<H: Files> Pictures<'_, H> {
 
     // Puts the picture of a table in the folder.
     fn draw(&mut self, t: &Table) -> Result<(), Ended>
-        ensures stays { (self.new.folder ≡ self.old.folder) × (self.new.drawing ≡ self.old.drawing) }
+        ensures stays { self.new.folder ≡ self.old.folder }
         ensures still { IsToldStill (H.tells_same self.old.host.now) (H.tells_same self.new.host.now) }
-        ensures ok { OnOk result (DrawsTable (H.tells_same self.old.host.now) self.old.folder.now self.old.drawing.now
+        ensures ok { OnOk result (DrawsTable (H.tells_same self.old.host.now) self.old.folder.now
             t.now (H.holds self.old.host.now) (H.holds self.new.host.now)) }
         ensures err { IfErr result EndsDrawing }
     {
         let picture = picture_of(self.alloc, t, self.drawing)?;
-        put_picture(
-            self.alloc,
-            self.host,
-            self.folder,
-            t,
-            self.drawing,
-            &picture,
-        )
+        let path = picture_path(self.alloc, self.folder, t)?;
+        put_file(self.host, &path, self.drawing.replace, &picture)
     }
 }
 
@@ -153,52 +143,27 @@ fn append_drawn(t: &Table, out: &mut Vec<u8>) -> Result<(), NoMemory>
     out.extend_from_slice(b" drawn")
 }
 
-/// Makes a picture of a table, a PNG or an SVG, a file of a folder, under the table's text.
-pub fn put_picture<H: Files>(
-    alloc: Global,
-    host: &mut H,
-    folder: &str,
-    t: &Table,
-    drawing: &Drawing<'_>,
-    picture: &[u8],
-) -> Result<(), Ended>
-    ensures ok { OnOk result (PutsFile (H.tells_same host.old) (picture_path drawing.now.png folder.now t.now)
-        picture.now (H.holds host.old) (H.holds host.new)) }
-    ensures still { IsToldStill (H.tells_same host.old) (H.tells_same host.new) }
-    ensures err { IfErr result (λ e. EndsDrawing e × IsKept (H.holds host.old) (H.holds host.new)) }
-{
-    let path = picture_path(alloc, folder, t, drawing.png)?;
-    put_file(host, &path, drawing.replace, picture)
-}
-
-/// The path of the picture of a table in a folder, a PNG or an SVG.
-pub fn picture_path(alloc: Global, folder: &str, t: &Table, png: bool) -> Result<String, NoMemory>
-    ensures { IfOk result (λ path. string_bytes path ≡ picture_path png folder.now t.now) }
+// The path of the picture of a table in a folder.
+fn picture_path(alloc: Global, folder: &str, t: &Table) -> Result<String, NoMemory>
+    ensures { IfOk result (λ path. string_bytes path ≡ picture_path folder.now t.now) }
 {
     // The proof needs that it is a table.
     let _ = t.states();
     let mut buffer = [0; TEXT_BYTES];
     match str::from_utf8(t.text(&mut buffer)) {
-        Ok(name) => named_path(alloc, folder, name, png),
+        Ok(name) => named_path(alloc, folder, name),
         Err(_) => unreachable!(),
     }
 }
 
 // The path of a picture in a folder.
-fn named_path(alloc: Global, folder: &str, name: &str, png: bool) -> Result<String, NoMemory>
-    ensures { IfOk result (λ path. string_bytes path ≡ named_path png folder.now name.now) }
+fn named_path(alloc: Global, folder: &str, name: &str) -> Result<String, NoMemory>
+    ensures { IfOk result (λ path. string_bytes path ≡ named_path folder.now name.now) }
 {
     let mut path = String::new(alloc);
     path.push_str(folder)?;
     path.push_str("/")?;
     path.push_str(name)?;
-    path.push_str(name_ending(png))?;
+    path.push_str(".svg")?;
     Ok(path)
-}
-
-// What the name of a picture ends with.
-fn name_ending(png: bool) -> &'static str
-    ensures { result.now ≡ name_ending png }
-{
-    if png { ".png" } else { ".svg" }
 }

@@ -1,94 +1,154 @@
 // What is drawn of the rows of a picture, colour by colour.
-ghost use Rattle.std.specs.Prelude.{◌≡◌, ◌-◌, ◌^◌, ◌<◌, ◌++◌, OnOk, [], IfOk, false, List, length, flat_map};
-ghost use Rattle.machine_text.specs.Packed.{entry_of};
-ghost use Rattle.cmd_show.specs.Rows.{Shown, AreRows};
-ghost use Rattle.cmd_show.specs.Svg.{head_svg_at, line_svg};
-ghost use Rattle.cmd_show.specs.Times.{AreWithinRuns};
-ghost use Rattle.cmd_show.specs.View.{columns_of};
+ghost use Rattle.std.specs.Prelude.{◌+◌, ◌<◌, ◌≤◌, IfOk};
+ghost use Rattle.run.specs.Limits.{run_step_limit};
 
-use crate::lines::{append_line, append_runs};
-use crate::row::Row;
-use crate::rows::Rows;
-use machine_text::State;
-use std::alloc::Global;
-use tape::NoMemory;
+use crate::rows::{Row, Rows};
+use crate::span::Span;
+use crate::view::{Reach, View};
+use machine_text::{State, Sym};
+use std::alloc::{AllocError as NoMemory, Global};
+use std::io::Write;
+use tape::Tape;
 
 // Where a head stands, and in which state it is.
-#[derive(Clone, Copy, Debug, PartialEq, Eq)]
-pub struct Head {
-    pub state: State,
-    pub column: u64,
-    pub row: u64,
+#[derive(Clone, Copy)]
+pub(crate) struct Head {
+    pub(crate) state: State,
+    pub(crate) column: u64,
+    pub(crate) row: u64,
 }
 
-// What is drawn: the paths of the dark columns, of the pale ones and of the line where the machine halts, and the heads.
+// How dark a column is drawn that holds a one.
+#[derive(Clone, Copy, PartialEq, Eq)]
+enum Tone {
+    // Some of its cells hold a one, but not more than half.
+    Pale,
+    // More than half of its cells hold a one.
+    Dark,
+}
+
+// What is drawn of so many columns and rows.
 #[derive(Drop)]
 pub(crate) struct Drawn {
+    pub(crate) columns: u64,
+    pub(crate) rows: u64,
+    // the machine halts on the last row
+    pub(crate) halts: bool,
+    // the paths of the dark columns, and of the pale ones
     pub(crate) dark: Vec<u8>,
     pub(crate) pale: Vec<u8>,
-    pub(crate) line: Vec<u8>,
     pub(crate) heads: Vec<Head>,
 }
 
 impl Drawn {
-    ghost use Rattle.cmd_show.specs.Rows.{shown_row};
-    ghost use Rattle.cmd_show.specs.inside.Drawn.{HasRow, HasRows};
-
-    // What is drawn of all the rows, from the first one on.
-    pub(crate) fn of(alloc: Global, rows: &mut Rows, columns: u64) -> Result<Drawn, NoMemory>
-        requires within { AreWithinRuns rows.old.times }
-        requires first { rows.old.number ≡ 0 }
-        requires begins { rows.old.over ≡ false }
-        requires columns { columns ≡ columns_of rows.old.view }
-        ensures { IfOk result (λ drawn. (shown : List Shown) × AreRows (entry_of rows.old.table) rows.old.view
-            rows.old.times 0 shown × (rows.new.number ≡ length shown) × HasRows rows.old.view shown drawn) }
+    // What is drawn of all the rows.
+    pub(crate) fn of(alloc: Global, mut rows: Rows, view: &View) -> Result<Drawn, NoMemory>
+        requires { 0 < view.now.share }
+        ensures { IfOk result (λ drawn. drawn.rows ≤ run_step_limit + run_step_limit + 1) }
     {
-        let mut drawn = Drawn::none(alloc);
-        let mut row = Row::new(alloc);
-        'each: while rows.next_row(&mut row)? {
-            drawn.take(&row, columns)?;
+        let mut drawn = Drawn {
+            columns: view.columns(),
+            rows: 0,
+            halts: false,
+            dark: Vec::new(alloc),
+            pale: Vec::new(alloc),
+            heads: Vec::new(alloc),
+        };
+        'each: while let Some(row) = rows.next_row()? {
+            drawn.take_columns(row, rows.tape(), rows.cells(), view)?;
+            if let Some(column) = view.column(rows.tape().head()) {
+                drawn.heads.push(Head {
+                    state: row.state,
+                    column,
+                    row: row.number,
+                })?;
+            }
         }
+        drawn.rows = rows.number();
+        drawn.halts = rows.halts();
         Ok(drawn)
     }
 
-    // Nothing drawn. It takes no memory.
-    fn none(alloc: Global) -> Drawn
-        ensures dark { result.dark.items ≡ [] }
-        ensures pale { result.pale.items ≡ [] }
-        ensures line { result.line.items ≡ [] }
-        ensures heads { result.heads.items ≡ [] }
+    // Draws the columns of a row; `visited` has all ones.
+    fn take_columns(
+        &mut self,
+        row: Row,
+        tape: &Tape,
+        visited: Span,
+        view: &View,
+    ) -> Result<(), NoMemory>
+        requires { 0 < view.now.share }
     {
-        Drawn {
-            dark: Vec::new(alloc),
-            pale: Vec::new(alloc),
-            line: Vec::new(alloc),
-            heads: Vec::new(alloc),
+        let cells = view.reach(visited);
+        let columns = view.columns_of(cells);
+        let mut tone = None;
+        let mut first = columns.from;
+        for column in columns.from..columns.to {
+            let next = tone_of(tape, view, view.cells_of(column), cells);
+            if next != tone {
+                self.take_run(row, tone, first, column)?;
+                tone = next;
+                first = column;
+            }
         }
+        self.take_run(row, tone, first, columns.to)
     }
 
-    // Draws a row more.
-    fn take(&mut self, row: &Row, columns: u64) -> Result<(), NoMemory>
-        requires { row.now.number < 2 ^ 64 - 1 }
-        ensures { OnOk result (HasRow columns (shown_row row.now) self.old self.new) }
-    {
-        append_runs(row.number, &row.dark, &mut self.dark)?;
-        append_runs(row.number, &row.pale, &mut self.pale)?;
-        append_line(row.number, row.halts, columns, &mut self.line)?;
-        push_head(row.number, row.state, row.head, &mut self.heads)
+    // Draws the columns of a row from the first to before the last.
+    fn take_run(
+        &mut self,
+        row: Row,
+        tone: Option<Tone>,
+        first: u64,
+        end: u64,
+    ) -> Result<(), NoMemory> {
+        match tone {
+            None => Ok(()),
+            Some(Tone::Dark) => {
+                append_columns(first, row.number, end.saturating_sub(first), &mut self.dark)
+            }
+            Some(Tone::Pale) => {
+                append_columns(first, row.number, end.saturating_sub(first), &mut self.pale)
+            }
+        }
     }
 }
 
-// Puts the head of a row behind others, where the view has it.
-fn push_head(
-    row: u64,
-    state: State,
-    head: Option<u64>,
-    heads: &mut Vec<Head>,
-) -> Result<(), NoMemory>
-    ensures { OnOk result (heads.new.items ≡ heads.old.items ++ head_svg_at row state.0 head) }
-{
-    if let Some(column) = head {
-        heads.push(Head { state, column, row })?;
+// The tone of a column with these cells, of which those outside of `reached` are blank.
+fn tone_of(tape: &Tape, view: &View, cells: Reach, reached: Reach) -> Option<Tone> {
+    let ones = ones_among(
+        tape,
+        view,
+        cells.from.max(reached.from),
+        cells.to.min(reached.to),
+    );
+    if ones == 0 {
+        return None;
     }
-    Ok(())
+    if ones > cells.to.saturating_sub(cells.from) / 2 {
+        Some(Tone::Dark)
+    } else {
+        Some(Tone::Pale)
+    }
+}
+
+// How many cells hold a one, from the first to before the last.
+fn ones_among(tape: &Tape, view: &View, from: u64, to: u64) -> u64 {
+    let mut ones = 0;
+    for cell in from..to {
+        if tape.cell(view.place(cell)) == Sym::One {
+            ones += 1;
+        }
+    }
+    ones
+}
+
+// Appends the path of so many columns of a row, from one on.
+pub(crate) fn append_columns(
+    column: u64,
+    row: u64,
+    count: u64,
+    out: &mut Vec<u8>,
+) -> Result<(), NoMemory> {
+    write!(out, "M{column} {row}h{count}v1h-{count}z").map_err(|_| NoMemory)
 }

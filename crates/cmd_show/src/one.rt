@@ -20,7 +20,7 @@ use tape::NoMemory;
 const ANOTHER_TABLE: &[u8] = b"refused 306\n";
 
 /// The table of the first line that asked for one.
-#[derive(Clone, Copy, Debug, PartialEq, Eq, Drop)]
+#[derive(Drop)]
 pub struct First {
     pub table: Option<Table>,
 }
@@ -77,7 +77,7 @@ pub fn draw_first<R: Read, W: Write, E: Write>(
     answers: &mut W,
     faults: &mut E,
 ) -> Result<Outcome, Ended>
-    ensures ok { IfOk result (DrawsFirst drawing.now (R.remaining input.old) (R.remaining input.new)
+    ensures ok { IfOk result (DrawsFirst (R.remaining input.old) (R.remaining input.new)
         (W.contents answers.old) (W.contents answers.new) (E.contents faults.old) (E.contents faults.new)) }
     ensures first { IfErr result (WritesFirst (PicksFirst (R.remaining input.old) (R.remaining input.new))
         (E.contents faults.old) (E.contents faults.new)) }
@@ -96,7 +96,7 @@ fn write_picture<W: Write>(
     table: Option<Table>,
     answers: &mut W,
 ) -> Result<(), Ended>
-    ensures ok { OnOk result (WritesPicture drawing.now table (W.contents answers.old) (W.contents answers.new)) }
+    ensures ok { OnOk result (WritesPicture table (W.contents answers.old) (W.contents answers.new)) }
     ensures silent { IfErr result (λ e. PrintsNothing e (W.contents answers.old) (W.contents answers.new)) }
     ensures err { IfErr result EndsDrawing }
 {

@@ -1,15 +1,12 @@
 // Runs of tables, printed a line at a time.
 ghost use Rattle.std.specs.Prelude.{◌≡◌, ◌⊎◌, [], IfErr, IfOk, OnOk};
-ghost use Rattle.machine_text.specs.Packed.{entry_of};
-ghost use Rattle.cmd_show.specs.Times.{AreWithinRuns, last_time};
-ghost use Rattle.cmd_show.specs.inside.Lines.{IsRoomFor, view_of};
 ghost use Rattle.cmd_show.specs.inside.Printing.{KeepsLines};
 
 use crate::layout::Layout;
-use crate::line::append_line;
-use crate::row::Row;
-use crate::rows::Rows;
+use crate::line::{append_ending, append_line};
+use crate::rows::{Ending, Rows};
 use crate::shown::shown_times;
+use crate::sides::Sides;
 use cert::{RecordFault, append_table};
 use cmd_lines::append_fault;
 use cmd_options::{Ended, Outcome, Showing, write_in_full};
@@ -117,37 +114,49 @@ impl Printer {
         append_table(t, &mut self.line)?;
         let times = shown_times(&self.showing);
         let layout = Layout::of(self.alloc, t, &self.showing, times)?;
-        let mut rows = Rows::new(self.alloc, *t, layout.view(), times)?;
-        self.show_rows(t, layout, &mut rows, answers)
+        let rows = Rows::new(self.alloc, *t, times)?;
+        self.show_rows(layout, rows, answers)
     }
 
-    // The lines of all rows, from the first one on.
+    // The lines of all rows, and how the run ends.
     fn show_rows<W: Write>(
         &mut self,
-        t: &Table,
         layout: Layout,
-        rows: &mut Rows,
+        mut rows: Rows,
         answers: &mut W,
     ) -> Result<(), Ended>
-        requires table { rows.old.table ≡ t.now }
-        requires view { rows.old.view ≡ view_of layout }
-        requires within { AreWithinRuns rows.old.times }
-        requires fits { IsRoomFor layout (entry_of t.now) (last_time rows.old.times) }
         ensures lines { OnOk result (KeepsLines self.old.waits.items (W.contents answers.old)
             self.new.waits.items (W.contents answers.new)) }
         ensures err { IfErr result (λ e. (e ≡ Ended.NoMemory) ⊎ (e ≡ Ended.Stream)) }
     {
-        let mut row = Row::new(self.alloc);
-        let mut cells = Vec::new(self.alloc);
-        let mut text = Vec::new(self.alloc);
-        'each: while rows.next_row(&mut row)? {
+        let mut sides = Sides::new(self.alloc);
+        'each: while let Some(row) = rows.next_row()? {
             self.end_line(answers)?;
-            text.clear();
-            append_line(self.alloc, t, layout, &row, &mut cells, &mut text)?;
-            // The newline in front has ended the line before.
-            let row_text = text.get(1..).unwrap_or_default();
-            self.line.extend_from_slice(row_text)?;
+            append_line(layout, row, &rows, &mut sides, &mut self.line)?;
         }
+        self.end_run(rows.ending(), answers)
+    }
+
+    // How a run ends, where it does.
+    fn end_run<W: Write>(&mut self, ending: Option<Ending>, answers: &mut W) -> Result<(), Ended>
+        ensures lines { OnOk result (KeepsLines self.old.waits.items (W.contents answers.old)
+            self.new.waits.items (W.contents answers.new)) }
+        ensures err { IfErr result (λ e. (e ≡ Ended.NoMemory) ⊎ (e ≡ Ended.Stream)) }
+    {
+        match ending {
+            Some(ending) => self.show_ending(ending, answers),
+            None => Ok(()),
+        }
+    }
+
+    // The line that says so.
+    fn show_ending<W: Write>(&mut self, ending: Ending, answers: &mut W) -> Result<(), Ended>
+        ensures lines { OnOk result (KeepsLines self.old.waits.items (W.contents answers.old)
+            self.new.waits.items (W.contents answers.new)) }
+        ensures err { IfErr result (λ e. (e ≡ Ended.NoMemory) ⊎ (e ≡ Ended.Stream)) }
+    {
+        self.end_line(answers)?;
+        append_ending(ending, &mut self.line)?;
         Ok(())
     }
 

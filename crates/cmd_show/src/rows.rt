@@ -1,63 +1,68 @@
-// The rows of a picture, one after another.
-ghost use Rattle.std.specs.Prelude.{◌≡◌, ◌+◌, ◌<◌, ◌≤◌, false, IfOk, OnOk, OnErr};
-ghost use Rattle.machine_text.specs.Packed.{entry_of};
+// The configurations of a run, one after another.
+ghost use Rattle.std.specs.Prelude.{◌≡◌, ◌+◌, ◌<◌, ◌≤◌, IfOk, IfSome};
+ghost use Rattle.machine_text.specs.Limits.{state_limit};
 ghost use Rattle.run.specs.Limits.{run_step_limit};
-ghost use Rattle.cmd_show.specs.Rows.{Shows, shown_row};
 ghost use Rattle.cmd_show.specs.Times.{AreWithinRuns};
-ghost use Rattle.cmd_show.specs.View.{IsHeadAt};
-ghost use Rattle.cmd_show.specs.Visits.{IsVisited};
 
-use crate::ones::read_ones;
-use crate::row::Row;
 use crate::span::Span;
 use crate::times::Times;
-use crate::tone::Tone;
-use crate::view::View;
 use crate::visits::visit;
-use machine_text::Table;
+use machine_text::{State, Table};
 use run::Runner;
 use std::alloc::Global;
 use std::marker::Model;
 use tape::{NoMemory, Tape};
 
-/// Goes through the rows of a table's run, from the top downwards: at each of some times what a view has of the
-/// configuration then. Where the run halts, that row is the last one, also where its time isn't one of these.
+// A configuration of a run, which is a row of a picture, or a line; its tape is that of the `Rows` that gave it.
+#[derive(Clone, Copy)]
+pub(crate) struct Row {
+    // from 0 on, downwards
+    pub(crate) number: u64,
+    // so many steps led to the configuration
+    pub(crate) time: u64,
+    pub(crate) state: State,
+}
+
+// How a run ends: in so many steps, with so many ones.
+#[derive(Clone, Copy)]
+pub(crate) struct Ending {
+    pub(crate) steps: u64,
+    pub(crate) ones: u64,
+}
+
+// Goes through the configurations of a table's run at some times. Where the run halts, its last configuration is the last
+// one, also where its time isn't one of these.
 #[derive(Drop)]
-pub struct Rows {
+pub(crate) struct Rows {
     table: Table,
-    frame: View,
     times: Times,
     runner: Runner,
-    // those that the head has visited
+    // those that the head has visited: all ones stand in them
     cells: Span,
     // how many rows were given
     number: u64,
     // the time of the next one
     due: u64,
-    // the run has halted
-    over: bool,
+    // the run halts with the next step
+    halts: bool,
 }
 
 impl Model for Rows {
-    ghost use Rattle.cmd_show.specs.Rows.{Progress};
-    ghost use Rattle.cmd_show.specs.inside.Rows.{progress_of, IsGoing};
+    ghost use Rattle.std.specs.Prelude.{ℕ};
+    ghost use Rattle.cmd_show.specs.inside.Rows.{IsGoing};
 
-    ghost Value = { Progress };
+    // The number of rows that were given.
+    ghost Value = { ℕ };
 
-    ghost view = { progress_of };
+    ghost view = { λ a. a.number };
 
     ghost invariant = { IsGoing };
 }
 
 impl Rows {
-    ghost use Rattle.cmd_show.specs.Rows.{GivesRow};
-
-    /// The rows of a table's run from the blank tape.
-    pub fn new(alloc: Global, t: Table, view: View, times: Times) -> Result<Rows, NoMemory>
-        requires times { AreWithinRuns times }
-        requires share { 0 < view.share }
-        ensures { IfOk result (λ rows. rows ≡ record
-            { table = t; view = view; times = times; number = 0; over = false }) }
+    // The rows of a table's run from the blank tape.
+    pub(crate) fn new(alloc: Global, t: Table, times: Times) -> Result<Rows, NoMemory>
+        requires { AreWithinRuns times }
     {
         let runner = Runner::new(alloc, t)?;
         // Opens the invariant of the runner.
@@ -65,67 +70,69 @@ impl Rows {
         let cells = Span::at_head(runner.tape());
         Ok(Rows {
             table: t,
-            frame: view,
             times,
             runner,
             cells,
             number: 0,
             due: times.from,
-            over: false,
+            halts: false,
         })
     }
 
-    /// Puts the next row in the place of what `row` has, or answers that there is none. After an error no row was given,
-    /// and the next call goes on from there.
-    pub fn next_row(&mut self, row: &mut Row) -> Result<bool, NoMemory>
-        ensures ok { IfOk result (λ given. GivesRow (entry_of self.old.table) self.old given (shown_row row.new)
-            self.new) }
-        ensures err { OnErr result (self.new ≡ self.old) }
+    // The next row, if there is one.
+    pub(crate) fn next_row(&mut self) -> Result<Option<Row>, NoMemory>
+        ensures more { IfOk result (λ row. IfSome row (λ r. self.new ≡ self.old + 1)) }
+        ensures limit { IfOk result (λ row. IfSome row (λ r. self.new ≤ run_step_limit + 1)) }
+        ensures state { IfOk result (λ row. IfSome row (λ r. r.state.0 < state_limit)) }
     {
-        if self.over || self.due > self.times.from + self.times.steps {
-            return Ok(false);
+        if self.halts || self.due > self.times.last() {
+            return Ok(None);
         }
         let _step = visit(&mut self.runner, &mut self.cells, self.due)?;
-        row.number = self.number;
-        show(&self.runner, &self.table, &self.frame, self.cells, row)?;
+        let row = Row {
+            number: self.number,
+            time: self.runner.steps(),
+            state: self.runner.state(),
+        };
+        self.halts = self
+            .table
+            .get(row.state, self.runner.tape().read())
+            .is_none();
         self.number += 1;
         self.due += self.times.every;
-        self.over = row.halts;
-        Ok(true)
+        Ok(Some(row))
     }
 
-    /// How many rows were given.
-    pub fn number(&self) -> u64
-        ensures number { result ≡ self.now.number }
-        ensures limit { result ≤ run_step_limit + run_step_limit + 1 }
+    // How many rows were given.
+    pub(crate) fn number(&self) -> u64
+        ensures { result ≤ run_step_limit + run_step_limit + 1 }
     {
         self.number
     }
-}
 
-// Fills a row with what a runner's configuration shows.
-fn show(runner: &Runner, t: &Table, view: &View, cells: Span, row: &mut Row) -> Result<(), NoMemory>
-    requires same { runner.now.table ≡ t.now }
-    requires visited { IsVisited (entry_of t.now) 0 runner.now.steps cells }
-    requires share { 0 < view.now.share }
-    ensures number { OnOk result (row.new.number ≡ row.old.number) }
-    ensures time { OnOk result (row.new.time ≡ runner.now.steps) }
-    ensures shows { OnOk result (Shows (entry_of t.now) view.now (shown_row row.new)) }
-{
-    let tape = runner.tape();
-    row.time = runner.steps();
-    read_ones(tape, view, cells, Tone::Dark, &mut row.dark)?;
-    read_ones(tape, view, cells, Tone::Pale, &mut row.pale)?;
-    row.state = runner.state();
-    row.head = head_column(view, tape);
-    row.halts = t.get(runner.state(), tape.read()).is_none();
-    Ok(())
-}
+    // The tape of the row that was given last.
+    pub(crate) fn tape(&self) -> &Tape {
+        self.runner.tape()
+    }
 
-// The column of a tape's head, where a view has it.
-fn head_column(view: &View, tape: &Tape) -> Option<u64>
-    requires { 0 < view.now.share }
-    ensures { IsHeadAt view.now tape.now.head result }
-{
-    view.column(tape.head())
+    // The cells that the head has visited up to then.
+    pub(crate) fn cells(&self) -> Span {
+        self.cells
+    }
+
+    // Whether the machine halts with the next step.
+    pub(crate) fn halts(&self) -> bool {
+        self.halts
+    }
+
+    // How the run ends, where the row that was given last is its last one.
+    pub(crate) fn ending(self) -> Option<Ending> {
+        if !self.halts {
+            return None;
+        }
+        Some(Ending {
+            steps: self.runner.steps() + 1,
+            ones: self.runner.into_score(),
+        })
+    }
 }

@@ -12,12 +12,14 @@ pub(crate) struct Span {
 
 impl Span {
     // The one cell under a tape's head.
-    pub(crate) fn at_head(tape: &Tape) -> Span
-        ensures first { result.first ≡ tape.now.head }
-        ensures last { result.last ≡ tape.now.head }
-    {
+    pub(crate) fn at_head(tape: &Tape) -> Span {
         let x = tape.head();
         Span { first: x, last: x }
+    }
+
+    // How many cells there are.
+    pub(crate) fn width(self) -> u64 {
+        self.last.abs_diff(self.first).saturating_add(1)
     }
 
     // Takes in the cells up to a tape's head.

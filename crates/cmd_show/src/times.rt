@@ -1,27 +1,24 @@
-// Which times of a run are drawn.
-ghost use Rattle.std.specs.Prelude.{◌≡◌, ℕ, ◌+◌, ◌-◌, ◌/◌, ◌<◌, ◌≤◌, min, max};
+// Which times of a run are shown.
+ghost use Rattle.std.specs.Prelude.{◌≡◌, ◌≤◌};
 ghost use Rattle.run.specs.Limits.{run_step_limit};
 
 use run::MAX_RUN_STEPS;
 
-/// Which times of a run are drawn, by numbers of steps: the first row shows time `from`, each later one `every` steps
-/// more, as long as they are no more than `steps` beyond `from`.
-#[derive(Clone, Copy, Debug, PartialEq, Eq)]
-pub struct Times {
-    pub from: u64,
-    pub steps: u64,
-    pub every: u64,
+// Which times of a run are shown, by numbers of steps: the first is `from`, each later one `every` steps more, as long as
+// they are no more than `steps` beyond `from`.
+#[derive(Clone, Copy)]
+pub(crate) struct Times {
+    pub(crate) from: u64,
+    pub(crate) steps: u64,
+    pub(crate) every: u64,
 }
 
 impl Times {
-    ghost use Rattle.cmd_show.specs.Times.{AreWithinRuns, due, last_time};
+    ghost use Rattle.cmd_show.specs.Times.{AreWithinRuns, last_time};
 
-    /// Times from one on. Those beyond `MAX_RUN_STEPS` are left out, a first one is put there, and `every` is 1 at least.
-    pub fn new(from: u64, steps: u64, every: u64) -> Times
-        ensures from { result.from ≡ min from run_step_limit }
-        ensures steps { result.steps ≡ min steps (run_step_limit - result.from) }
-        ensures every { result.every ≡ min (max every 1) (run_step_limit + 1) }
-        ensures within { AreWithinRuns result }
+    // Times from one on. Those beyond `MAX_RUN_STEPS` are left out, a first one is put there, and `every` is 1 at least.
+    pub(crate) fn new(from: u64, steps: u64, every: u64) -> Times
+        ensures { AreWithinRuns result }
     {
         let from = from.min(MAX_RUN_STEPS);
         Times {
@@ -31,20 +28,35 @@ impl Times {
         }
     }
 
-    /// Times in the same part of a run, so many steps from row to row that there are no more than `rows` rows; one at least.
-    pub fn in_rows(self, rows: u64) -> Times
+    // Times in the same part of a run, so many steps from row to row that there are no more than `rows` rows; one at least.
+    pub(crate) fn in_rows(self, rows: u64) -> Times
         requires { AreWithinRuns self }
-        ensures from { result.from ≡ self.from }
-        ensures steps { result.steps ≡ self.steps }
-        ensures every { result.every ≡ self.steps / max rows 1 + 1 }
-        ensures within { AreWithinRuns result }
-        ensures few { (n : ℕ) → due result n ≤ last_time result → n < max rows 1 }
+        ensures { AreWithinRuns result }
     {
-        let rows = rows.max(1);
         Times {
-            from: self.from,
-            steps: self.steps,
-            every: self.steps / rows + 1,
+            every: self.steps / rows.max(1) + 1,
+            ..self
         }
+    }
+
+    // All times up to the last of these.
+    pub(crate) fn all(self) -> Times
+        requires { AreWithinRuns self }
+        ensures { AreWithinRuns result }
+    {
+        Times {
+            from: 0,
+            steps: self.last(),
+            every: 1,
+        }
+    }
+
+    // The last time that may be shown.
+    pub(crate) fn last(self) -> u64
+        requires { AreWithinRuns self }
+        ensures last { result ≡ last_time self }
+        ensures limit { result ≤ run_step_limit }
+    {
+        self.from + self.steps
     }
 }

@@ -1,3 +1,1 @@
-mod Rules
-mod Grown
 mod Givens

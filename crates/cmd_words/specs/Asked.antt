@@ -1,6 +1,6 @@
 -- What the words of a command line ask for: of each command, each option is what clap's matches give under its name.
-use Rattle.std.specs.Prelude.{◌≡◌, ℕ, Bool, ⊤, List, [], map, Option, Some, None, codes, unwrap_or}
-use Rattle.clap.specs.Words.{Row, all_of, first_of, subcommand_of}
+use Rattle.std.specs.Prelude.{◌≡◌, ℕ, Bool, true, ⊤, List, [], map, Option, Some, None, codes, unwrap_or}
+use Rattle.clap.specs.Words.{App, Row, all_of, first_of, is_simple, subcommand_of}
 use Rattle.cmd_options.specs.declared.options.Options.{Options}
 use Rattle.cmd_options.specs.declared.options.Options.TheVariants.{Check, Decide, Explain, Show, Tables, Coord, CoordPart, Work, Run, Loop, Retry, Merge, Carry, Mend, Split, Settle, Walk, Join, Look, Draw, Page, Report}
 use Rattle.cmd_options.specs.declared.drawing.Drawing.{Drawing}
@@ -14,7 +14,6 @@ use Rattle.cmd_options.specs.declared.options.Settling.{Settling}
 use Rattle.cmd_options.specs.declared.options.Walking.{Walking}
 use Rattle.cmd_options.specs.declared.options.Working.{Working}
 use Rattle.cmd_words.specs.Given.{IsArgument, IsFlag, IsLedger, IsNumber, IsNumberIf, IsNumberOr, IsStates, IsTextIf, IsWrittenAt}
-use Rattle.cmd_words.specs.Grammar.{grammar}
 use Rattle.cmd_words.specs.declared.sourcing.Source.{Source}
 use Rattle.cmd_words.specs.declared.sourcing.Source.TheVariants.{Standard, File, Lines}
 
@@ -96,7 +95,6 @@ pub record AsksDraw (given : List Row) (d : Drawing) : Type 0 where
   pub columns : IsNumber given (codes "columns") d.columns
   pub square : IsNumber given (codes "square") d.square
   pub height : IsNumberIf given (codes "height") d.height
-  pub png : IsFlag given (codes "png") d.png
   pub out : IsTextIf given (codes "out") d.out
   pub replace : IsFlag given (codes "replace") d.replace
 
@@ -173,22 +171,26 @@ abbrev pub AreAsked : Option (List ℕ × List Row) → Options → Type 0
 AreAsked None asked = ⊥
 AreAsked (Some (name, rows)) asked = AsksFor name rows asked
 
--- the words of a command line ask for it, by the program's grammar
+-- so holds of the command at which clap's parse of the words stops, by some grammar. That this is the program's is tested
+abbrev pub Parsed : List (List ℕ) → (Option (List ℕ × List Row) → Type 0) → Type 0
+Parsed words holds = (app : App) × (is_simple app ≡ true → holds (subcommand_of app words))
+
+-- the words of a command line ask for it
 abbrev pub AskFor : List (List ℕ) → Options → Type 0
-AskFor words asked = AreAsked (subcommand_of grammar words) asked
+AskFor words asked = Parsed words (λ stop. AreAsked stop asked)
 
 -- of the matches of that command, whichever it is
-abbrev pub OfCommand : Option (List ℕ × List Row) → (List Row → Type 0) → Type 0
-OfCommand None holds = ⊥
-OfCommand (Some (name, rows)) holds = holds rows
+abbrev pub OfCommand : (List Row → Type 0) → Option (List ℕ × List Row) → Type 0
+OfCommand holds None = ⊥
+OfCommand holds (Some (name, rows)) = holds rows
 
 -- the words of a command line give `--why`, or don't
 abbrev pub AskWhy : List (List ℕ) → Bool → Type 0
-AskWhy words why = OfCommand (subcommand_of grammar words) (λ rows. IsFlag rows (codes "why") why)
+AskWhy words why = Parsed words (OfCommand (λ rows. IsFlag rows (codes "why") why))
 
 -- and `--lenient`
 abbrev pub AskLenient : List (List ℕ) → Bool → Type 0
-AskLenient words lenient = OfCommand (subcommand_of grammar words) (λ rows. IsFlag rows (codes "lenient") lenient)
+AskLenient words lenient = Parsed words (OfCommand (λ rows. IsFlag rows (codes "lenient") lenient))
 
 -- a path, where it isn't the `-` of standard input
 abbrev pub NamesNoFile : Option (List ℕ) → Type 0
@@ -205,4 +207,4 @@ IsSource rows (Lines lines) =
 
 -- the words of a command line give its lines, name their file behind `--input`, or do neither
 abbrev pub AskSource : List (List ℕ) → Source → Type 0
-AskSource words source = OfCommand (subcommand_of grammar words) (λ rows. IsSource rows source)
+AskSource words source = Parsed words (OfCommand (λ rows. IsSource rows source))

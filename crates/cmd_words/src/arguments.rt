@@ -153,8 +153,6 @@ mod rows {
     // A certificate is of the table as it stands.
     pub(crate) const WITH_RECORDS: Flag = Flag { name: "records", needs: &[], excludes: &["normal"],
         help: "Keep the record that follows a table" };
-    pub(crate) const PNG: Flag = Flag { name: "png", needs: &[], excludes: &["height"],
-        help: "Draw a PNG in place of an SVG" };
     pub(crate) const TABLE: Flag = Flag { name: "table", needs: &[], excludes: &[],
         help: "Read records on standard input, a line each, in place of a ledger" };
     pub(crate) const HOLDOUTS: Flag = Flag { name: "holdouts", needs: &[], excludes: &[],

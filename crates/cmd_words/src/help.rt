@@ -140,13 +140,13 @@ large the tree is: 16 bytes for each holdout, and what the searches take. A walk
 With --root TABLE, a table of N states, only the tree below that table is walked. The report says `root TABLE`; its
 best is S(N) where TABLE has no entries.
 
-With --long-run K and --hard a halt that no other stage finds is looked for in K steps at most, in place of 100,000,000: so
-a walk takes less time, and may leave tables that halt late.
+With --long-run K and --hard a halt that no other stage finds is looked for in K steps at most, in place of
+100,000,000: so a walk takes less time, and may leave tables that halt late.
 
 With --save FILE the records that took long to find are appended to FILE, each as soon as it is found: those that other
 searches than runs and backward reasoning found, with --hard those of later stages than the eighth, and those of more
-than --dear steps. What was looked up isn't appended. A last line of FILE that has no newline gets one first. A ledger is refused. The next walk
-gets FILE by --known.
+than --dear steps. What was looked up isn't appended. A last line of FILE that has no newline gets one first. A ledger
+is refused. The next walk gets FILE by --known.
 
 All is done in this process, on one processor; `contrib/walk.sh N` uses all. Standard error shows the progress: at a
 terminal on one line that is written over, elsewhere with --progress, a line a second.
@@ -186,8 +186,8 @@ and then those of B for tables that A has no record of. Each record is judged ag
 A is read and judged before B is opened, and both before OUT is touched. Where OUT is a file already that isn't empty,
 or a link, it stays, and the command ends (`refused 604`), except with --replace: OUT may then be A or B too. The ledger
 is written to a new file beside the one that OUT leads to, OUT.new, which takes its place once it is on the disk; links
-stay; after a failure the new file is left. A file OUT.new that is there already is removed first; where it leads to A or
-B, the new file is OUT.new.new. A device is written over. Standard error shows the progress, as of `bb report`.
+stay; after a failure the new file is left. A file OUT.new that is there already is removed first; where it leads to A
+or B, the new file is OUT.new.new. A device is written over. Standard error shows the progress, as of `bb report`.
 
 Exit status: 0 all was kept; 1 it wasn't, or a ledger was refused (`refused 404` no header with a readable
 table, `refused 405` the tables of the two headers differ, or one isn't in order); 2 a wrong command line;
@@ -240,10 +240,9 @@ steps, for R rows, every E-th time is drawn, where E is one more than the whole 
 its last time. Of W cells, for C columns, each column has W/C of them, rounded up, and the last what is left. With
 --width W the first head is in column W/2, rounded down, from 0 on; with --from a run that halts before begins at its
 last time. --square is reduced until the picture is at most 1,000 pixels wide; --height makes rows as high as it
-allows. With --png the picture has the light colours, without line and legend; it can't be given with --height. A
-record's certificate isn't judged. With --out the folder is made where it isn't there; a picture is made beside its
-place and put there. One that is there already, or a link, stays, and ends the command (`refused 605`), except with
---replace; so does a picture that can't be written.
+allows. A record's certificate isn't judged. With --out the folder is made where it isn't there; a picture is made
+beside its place and put there. One that is there already, or a link, stays, and ends the command (`refused 605`),
+except with --replace; so does a picture that can't be written. `contrib/png` makes a PNG of `bb show --align`.
 
 Exit status: 0 each line was a table or a record, and one at most without --out; 1 a line was refused; 2 a wrong
 command line; 3 out of memory (`refused memory`); 4 a stream failed (`refused 603`), or a picture couldn't be written
@@ -256,8 +255,8 @@ and sorted; and what a tree shows that is complete. The ledger is read as by `bb
 `bb split` made: its page is that of all its ledgers together, which are read as by `bb join`.
 
 With --table records are read on standard input, a line each, in place of a ledger. For each record the page has its
-verdict, its certificate, what that says in words, and a button that draws its run. With --title the page has that title.
-Standard error shows the progress, as of `bb report`.
+verdict, its certificate, what that says in words, and a button that draws its run. With --title the page has that
+title. Standard error shows the progress, as of `bb report`.
 
   bb page four.ledger --title 'Four states' > four.html
   bb decide --hard < tables.txt | bb page --table > tables.html
@@ -348,7 +347,8 @@ With --holdouts no lines are read: the tables that are recorded without a verdic
 texts, those of all parts of a folder.
 
 In a folder the trunk is loaded once, and a part when its tables are asked for; the last part is kept. Nothing is
-written. Standard error shows the progress, as of `bb report`. With --holdouts standard error says what is wrong with a folder, as by `bb join`.
+written. Standard error shows the progress, as of `bb report`. With --holdouts standard error says what is wrong with
+a folder, as by `bb join`.
 
 Exit status: 0 each table has a record; 1 one has none, or a line or a ledger was refused; 2 a wrong command line; 3
 out of memory (`refused memory`); 4 a file couldn't be read (`refused 605`), or a stream failed (`refused 603`).";
@@ -372,16 +372,14 @@ With --json each answer is an object, as by `bb check --json`, with the record a
 `ones` and `steps`.
 Standard error shows the progress, as of `bb report`.
 
-With --run the numbers of a search and --hard aren't used; a table with no pair that halts still gets `B 0` where its run
-comes to no loop.
-Loops are looked for within 10,000,000 steps at most. Words of n-grams are tried by width from 1 on, automata by stages
-(docs/FINDERS.md); --count is of both sides together. --hard has its own stages, and can't be given with --depth,
---gram, --far, --words, --count or --rules. With --hard --steps scales the stages: with a thousand times the default,
-1000000, a table that none of them settles takes some hours. The file of --known is read once, before anything else; one
-with lines, none of which is a record, is refused.
-Its lines can be in any order; for each table the first counts that is a record of it and claims something. A record
-that doesn't stand is forgotten, and the search goes on. At a terminal standard error names the first line that is a
-record, at the end.
+With --run the numbers of a search and --hard aren't used; a table with no pair that halts still gets `B 0` where its
+run comes to no loop. Loops are looked for within 10,000,000 steps at most. Words of n-grams are tried by width from 1
+on, automata by stages (docs/FINDERS.md); --count is of both sides together. --hard has its own stages, and can't be
+given with --depth, --gram, --far, --words, --count or --rules. With --hard --steps scales the stages: with a thousand
+times the default, 1000000, a table that none of them settles takes some hours. The file of --known is read once,
+before anything else; one with lines, none of which is a record, is refused. Its lines can be in any order; for each
+table the first counts that is a record of it and claims something. A record that doesn't stand is forgotten, and the
+search goes on. At a terminal standard error names the first line that is a record, at the end.
 
 Exit status: 0 each line was a table; 1 some wasn't; 2 a wrong command line; 3 out of memory
 (`refused memory` on standard error); 4 a stream failed (`refused 603`), or known records couldn't be

@@ -428,7 +428,6 @@ fn draw_options<'a>(draw: &ArgMatches<'a>) -> Result<Options<'a>, LineFault>
         columns: number_of(draw, COLUMNS)?,
         square: number_of(draw, SQUARE)?,
         height: number_if_given(draw, HEIGHT)?,
-        png: flag_of(draw, PNG),
         out: text_of(draw, PICTURES),
         replace: flag_of(draw, DRAWN_REPLACE),
     }))

@@ -50,6 +50,7 @@ far_kind = record {
     made_for = λ n. a.states ≡ n;
     within = AreSized a;
     wide = λ p. ⊥;
+    overflows = λ p. ⊥;
     stands = λ p. AreAutomata a × AreAutomataOf a p;
     unseen = λ p. ⊥;
     takes_memory = λ p. ⊥;

@@ -21,6 +21,7 @@ listed_kind = record {
     made_for = λ n. t.states ≡ n;
     within = AreWithinRecord t;
     wide = λ p. ⊥;
+    overflows = λ p. ⊥;
     stands = λ p. AreTextsOf t p;
     unseen = λ p. ⊥;
     takes_memory = λ p. Unit {0};

@@ -1,9 +1,8 @@
 -- What is so of the texts of counted automata that were found.
 use Rattle.machine_text.specs.Packed.{Packed}
-use Rattle.kind_counted.specs.CosetTexts.{CosetTexts, AreWithinLimits, AreCosetsOf, GetTooLargeFor}
+use Rattle.kind_counted.specs.CosetTexts.{CosetTexts, AreWithinLimits, AreCosetsOf}
 
--- the automata stand for the table, within the limits, and no number gets too large when they are judged for it
+-- the automata stand for the table, within the limits
 pub record AreCosetsFound (p : Packed) (t : CosetTexts) : Type 0 where
   pub within : AreWithinLimits t
   pub stand : AreCosetsOf t p
-  pub small : GetTooLargeFor t p → ⊥

@@ -5,7 +5,7 @@ use Rattle.std.specs.BTreeMap.{get, is_at}
 use Rattle.machine_text.specs.Packed.{Packed}
 use Rattle.machine_text.specs.Order.{table_cmp}
 use Rattle.text.specs.Lines.{bounded_line}
-use Rattle.cert.specs.Asking.{ShowsVerdict}
+use Rattle.cert.specs.Asking.{IsPassedOver, ShowsVerdict}
 use Rattle.cert.specs.Claim.{Claim, HaltsClaim, NeverClaim, NoClaim, Recorded}
 use Rattle.cert.specs.Kinds.{owned_claim}
 use Rattle.cert.specs.declared.record_fault.RecordFault.{RecordFault}
@@ -70,12 +70,12 @@ pub record IsKnownBy (has : Option (List ℕ)) (limit : ℕ) (known : Known) : T
   pub tables : (p : Packed) → known_of known p ≡ first_said 0 lines p
   pub refused : known.refused ≡ with_numbers no_refusals (untold (λ p. None) 0 lines)
 
--- what is known of a table is given where it stands
+-- what is known of a table is given where it stands, or passed over
 abbrev pub IsGiven : Option Saying → Packed → Option Claim → Type 0
 IsGiven None p given = given ≡ None
 IsGiven (Some said) p given =
     (ShowsVerdict p (Some said.claim) × (given ≡ Some said.claim))
-    ⊎ ((ShowsVerdict p (Some said.claim) → ⊥) × (given ≡ None))
+    ⊎ (IsPassedOver p (Some said.claim) × (given ≡ None))
 
 -- what is known of a table is known no more, and its line is refused
 abbrev pub IsRefused : Option Saying → Known → Packed → Known → Type 0

@@ -1,6 +1,6 @@
 // What a line tells of a table.
-ghost use Rattle.std.specs.Prelude.{◌↔◌, IsTrue, IfOk, Some};
-ghost use Rattle.cert.specs.Asking.{ShowsVerdict};
+ghost use Rattle.std.specs.Prelude.{◌≡◌, false, IsTrue, IfOk, Some};
+ghost use Rattle.cert.specs.Asking.{IsPassedOver, ShowsVerdict};
 ghost use Rattle.cert.specs.Kinds.{owned_claim};
 
 use cert::{OwnedCertificate, Record, judge};
@@ -18,7 +18,10 @@ pub(crate) struct Told {
 impl Told {
     // Whether that claims something of a table, and stands.
     pub fn stands(&self, alloc: Global, t: &Table) -> Result<bool, NoMemory>
-        ensures { IfOk result (λ stands. IsTrue stands ↔ ShowsVerdict t.now (Some (owned_claim self.now.certificate))) }
+        ensures stands { IfOk result
+            (λ stands. IsTrue stands → ShowsVerdict t.now (Some (owned_claim self.now.certificate))) }
+        ensures passed { IfOk result
+            (λ stands. stands ≡ false → IsPassedOver t.now (Some (owned_claim self.now.certificate))) }
     {
         // The parts by their names: the borrow checker's proof has to know of what the record is made.
         let record = Record {

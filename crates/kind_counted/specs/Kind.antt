@@ -3,11 +3,11 @@ use Rattle.std.specs.Prelude.{◌≡◌, codes}
 use Rattle.machine_text.specs.Packed.{entry_of}
 use Rattle.law_machines.proofs.CountedLaws.{counted_never}
 use Rattle.kind_evidence.specs.Kind.{Kind}
-use Rattle.kind_counted.specs.CosetTexts.{CosetTexts, AreCosetTexts, AreWithinLimits, AreCosetsOf, GetTooLargeFor}
+use Rattle.kind_counted.specs.CosetTexts.{CosetTexts, AreCosetTexts, AreWithinLimits, AreCosetsOf}
 use Rattle.kind_counted.specs.Fields.{counted_by, counted_fields}
 
--- the counted automata that the texts give stand for the table; they are too wide where a number gets too large when
--- they are judged, and to judge them takes memory
+-- the counted automata that the texts give stand for the table; a number may get too large when they are judged, which
+-- takes memory
 abbrev pub counted_kind : Kind CosetTexts
 counted_kind = record {
   letter = codes "W";
@@ -17,7 +17,8 @@ counted_kind = record {
     writable = AreCosetTexts t;
     made_for = λ n. t.states ≡ n;
     within = AreWithinLimits t;
-    wide = λ p. GetTooLargeFor t p;
+    wide = λ p. ⊥;
+    overflows = λ p. Unit {0};
     stands = λ p. AreCosetsOf t p;
     unseen = λ p. ⊥;
     takes_memory = λ p. Unit {0};

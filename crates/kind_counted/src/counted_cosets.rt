@@ -14,8 +14,8 @@ use text::FieldFault;
 /// two half tapes, each from far away towards the head, and count how often some of their transitions are taken; what
 /// can stand around the head comes with a coset of a lattice, in which the counts lie (equations as in Karr 1976,
 /// congruences as in Granger 1991; with one weight bbchallenge's MITMWFAR). The numbers are texts, borrowed, and read
-/// where they are checked. The claim is made for tables of so many states, and for no others. It is too wide for a
-/// table where a number over 2^31 comes up when it is judged.
+/// where they are checked. The claim is made for tables of so many states, and for no others. Where a number over 2^31
+/// comes up when it is judged, it is `TooWide`, though it may stand.
 #[derive(Clone, Copy, Debug, PartialEq, Eq)]
 pub struct CountedCosets<'a> {
     pub(crate) texts: TextsGiven<'a>,
@@ -26,7 +26,7 @@ impl<'a> CountedCosets<'a> {
     ghost use Rattle.std.specs.Prelude.{◌≡◌, ◌+◌, ◌≤◌, ◌↔◌, IsTrue, Err, OnOk, length};
     ghost use Rattle.machine_text.specs.Limits.{state_limit};
     ghost use Rattle.text.specs.Fields.{made_of};
-    ghost use Rattle.kind_counted.specs.CosetTexts.{coset_texts, AreCosetsOf, GetTooLargeFor};
+    ghost use Rattle.kind_counted.specs.CosetTexts.{coset_texts, AreCosetsOf};
     ghost use Rattle.kind_counted.specs.CountedCosets.{coset_texts_of};
     ghost use Rattle.kind_counted.specs.Fields.{cosets_by};
     ghost use Rattle.kind_counted.specs.Limits.{coset_byte_limit, count_limit};
@@ -75,13 +75,10 @@ impl<'a> CountedCosets<'a> {
 
     // Whether the counted automata are of a table. Reads the texts into memory.
     fn judged(&self, alloc: Global, t: &Table) -> Result<(), Refused>
-        ensures stands { OnOk result
-            (AreCosetsOf (coset_texts_of self.now) t.now × (GetTooLargeFor (coset_texts_of self.now) t.now → ⊥)) }
+        ensures stands { OnOk result (AreCosetsOf (coset_texts_of self.now) t.now) }
         ensures fails { result ≡ Err Refused.Fails → AreCosetsOf (coset_texts_of self.now) t.now → ⊥ }
-        ensures small { result ≡ Err Refused.Fails → GetTooLargeFor (coset_texts_of self.now) t.now → ⊥ }
         ensures long { result ≡ Err Refused.TooLong → ⊥ }
         ensures seen { result ≡ Err Refused.NotSeen → ⊥ }
-        ensures wide { result ≡ Err Refused.TooWide → GetTooLargeFor (coset_texts_of self.now) t.now }
     {
         if t.states() != self.texts.states {
             return Err(Refused::Fails);

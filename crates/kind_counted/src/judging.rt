@@ -1,5 +1,5 @@
 // Whether counted automata stand for a table.
-ghost use Rattle.std.specs.Prelude.{◌≡◌, ◌↔◌, ◌≤◌, length, IsTrue, Some, Err, IfOk, OnErr, IfSome, IfNone};
+ghost use Rattle.std.specs.Prelude.{◌≡◌, ◌≤◌, length, Some, Err, IfOk, OnErr, IfSome};
 ghost use Rattle.machine_text.specs.Packed.{entry_of};
 ghost use Rattle.law_turing.specs.Halting.{Never};
 ghost use Rattle.law_turing.specs.Mirror.{opposite};
@@ -10,11 +10,10 @@ ghost use Rattle.kind_counted.specs.Automata.{transitions_of};
 ghost use Rattle.kind_counted.specs.Items.{coset_of};
 ghost use Rattle.kind_counted.specs.States.{IsCount};
 ghost use Rattle.kind_counted.specs.Certificate.{counted_of};
+ghost use Rattle.kind_counted.specs.Formed.{IsFormed};
 ghost use Rattle.kind_counted.specs.inside.Used.{IsUsedTable};
 ghost use Rattle.kind_counted.specs.inside.Points.{coset_by};
-ghost use Rattle.kind_counted.specs.inside.Judging.{first_of, end_of, IsItemAt, IsNoItem, SettlesFrom, AllSettle, HasStep, AllGoOn, StartsInside};
-ghost use Rattle.kind_counted.specs.inside.Agreement.{Tells, not_in, not_in_both};
-ghost use Rattle.kind_counted.specs.Pass.{IsFormed, GetTooLarge, inside, begins_inside, all_go_on, goes_on, leads_on, settled_on, settled_from, settled_by, points_settle};
+ghost use Rattle.kind_counted.specs.inside.Judging.{first_of, end_of, SettlesFrom, AllSettle, HasStep, AllGoOn, StartsInside};
 
 use crate::automaton::Automaton;
 use crate::certificate::CountedAutomata;
@@ -43,9 +42,6 @@ impl CountedAutomata {
         ensures stands { IfOk result (λ _. CountedStand (entry_of t.now) (counted_of self.now)) }
         ensures never { IfOk result (λ _. Never (entry_of t.now)) }
         ensures fails { result ≡ Err Refused.Fails → CountedStand (entry_of t.now) (counted_of self.now) → ⊥ }
-        ensures large { result ≡ Err Refused.TooLarge → GetTooLarge (entry_of t.now) (counted_of self.now) }
-        ensures small { IfOk result (λ _. GetTooLarge (entry_of t.now) (counted_of self.now) → ⊥) }
-        ensures not_large { result ≡ Err Refused.Fails → GetTooLarge (entry_of t.now) (counted_of self.now) → ⊥ }
     {
         self.check_form()?;
         let left = Used::of(alloc, &self.left)?;
@@ -79,7 +75,6 @@ impl CountedAutomata {
     fn check_start(&self) -> Result<(), Refused>
         ensures starts { IfOk result (λ _. StartsInside (counted_of self.now)) }
         ensures fails { result ≡ Err Refused.Fails → StartsInside (counted_of self.now) → ⊥ }
-        ensures pass { Tells (begins_inside (counted_of self.now)) result }
     {
         let at = Local {
             left: 0,
@@ -107,9 +102,6 @@ impl CountedAutomata {
             (λ _. AllGoOn (entry_of t.now) (counted_of self.now) self.now.items.items (length self.now.items.items)) }
         ensures fails { result ≡ Err Refused.Fails →
             AllGoOn (entry_of t.now) (counted_of self.now) self.now.items.items (length self.now.items.items) → ⊥ }
-        ensures pass { Tells
-            (all_go_on (entry_of t.now) (counted_of self.now)
-            (not_in_both left.now.sets.items right.now.sets.items)) result }
     {
         for item in self.items.iter() {
             self.check_item(alloc, t, left, right, item)?;
@@ -132,10 +124,6 @@ impl CountedAutomata {
             (λ _. HasStep (entry_of t.now) (counted_of self.now) item.now.at (coset_of item.now.coset)) }
         ensures fails { result ≡ Err Refused.Fails →
             HasStep (entry_of t.now) (counted_of self.now) item.now.at (coset_of item.now.coset) → ⊥ }
-        ensures pass { Tells
-            (goes_on (counted_of self.now) (not_in_both left.now.sets.items right.now.sets.items) item.now.at
-            (coset_of item.now.coset)
-            (entry_of t.now item.now.at.state.0 item.now.at.read)) result }
     {
         if item.at.state.0 >= t.states() {
             return Err(Refused::Fails);
@@ -162,10 +150,6 @@ impl CountedAutomata {
             (coset_of item.now.coset) entry.write entry.next entry.dir) }
         ensures fails { result ≡ Err Refused.Fails →
             LeadsOn (counted_of self.now) item.now.at (coset_of item.now.coset) entry.write entry.next entry.dir → ⊥ }
-        ensures pass { Tells
-            (goes_on (counted_of self.now) (not_in_both left.now.sets.items right.now.sets.items) item.now.at
-            (coset_of item.now.coset)
-            (Some entry)) result }
     {
         match entry.dir {
             Dir::L => {
@@ -207,9 +191,6 @@ impl CountedAutomata {
             (coset_of item.now.coset) entry.write entry.next entry.dir) }
         ensures fails { result ≡ Err Refused.Fails →
             LeadsOn (counted_of self.now) item.now.at (coset_of item.now.coset) entry.write entry.next entry.dir → ⊥ }
-        ensures pass { Tells
-            (leads_on (counted_of self.now) (not_in used.now.sets.items) item.now.at
-            (coset_of item.now.coset) entry by) result }
     {
         match by {
             Some(by) => self.check_side(
@@ -234,9 +215,6 @@ impl CountedAutomata {
             (λ _. AllSettle (counted_of self.now) item.now.at (coset_of item.now.coset) step.side step.by step.next) }
         ensures fails { result ≡ Err Refused.Fails →
             AllSettle (counted_of self.now) item.now.at (coset_of item.now.coset) step.side step.by step.next → ⊥ }
-        ensures pass { Tells
-            (settled_on (counted_of self.now) (not_in used.now.sets.items) item.now.at
-            (coset_of item.now.coset) step.side step.by step.next) result }
     {
         for q in 0..self.on(step.side).states.len() {
             self.check_from(alloc, used, item, step, q, Sym::Zero)?;
@@ -263,9 +241,6 @@ impl CountedAutomata {
         ensures fails { result ≡ Err Refused.Fails →
             SettlesFrom (counted_of self.now) item.now.at (coset_of item.now.coset) step.side step.by step.next q b →
             ⊥ }
-        ensures pass { Tells
-            (settled_from (counted_of self.now) (not_in used.now.sets.items) item.now.at (coset_of item.now.coset)
-            step.side step.by step.next q b (delta (counted_of self.now) step.side q b)) result }
     {
         match self.on(step.side).get(q, b) {
             Some(last) => {
@@ -298,8 +273,6 @@ impl CountedAutomata {
         ensures fails { result ≡ Err Refused.Fails →
             Settled (Remains (counted_of self.now) (coset_of item.now.coset) step.side step.by last q)
             (HasCoset (counted_of self.now) (moved_to step.side step.by.to step.next b q)) → ⊥ }
-        ensures pass { Tells (settled_by (counted_of self.now) (not_in used.now.sets.items) (coset_of item.now.coset)
-            step.side step.by step.next q b last) result }
     {
         let points = Points::moved(alloc, &item.coset, step.by.count, last.count)?;
         match points.kept(
@@ -327,8 +300,6 @@ impl CountedAutomata {
         ensures fails { result ≡ Err Refused.Fails →
             Settled (IsMember (coset_by points.now.base points.now.rows.items))
             (HasCoset (counted_of self.now) next) → ⊥ }
-        ensures pass { Tells
-            (points_settle (counted_of self.now) next (coset_by points.now.base points.now.rows.items)) result }
     {
         if points.is_negative() {
             return Ok(());
@@ -376,7 +347,6 @@ impl CountedAutomata {
 fn check_zeros(k: &Coset) -> Result<(), Refused>
     ensures member { IfOk result (λ _. IsMember (coset_of k.now) zeros) }
     ensures fails { result ≡ Err Refused.Fails → IsMember (coset_of k.now) zeros → ⊥ }
-    ensures pass { Tells (inside (coset_of k.now).rows (coset_of k.now).base) result }
 {
     Row::sum_to(&k.rows, &k.base)
 }

@@ -1,7 +1,7 @@
 // A whole number for each count.
 ghost use Rattle.std.specs.Prelude.{◌≡◌, ◌↔◌, ℕ, ◌<◌, ◌≤◌, ℤ, pos, ◌-ℤ◌, ◌*ℤ◌, int_div, IsTrue, IfSome, IfNone, IfOk};
 ghost use Rattle.std.specs.Int.RustNames.{unsigned_abs};
-ghost use Rattle.law_machines.specs.Cosets.{Point, less};
+ghost use Rattle.law_machines.specs.Cosets.{less};
 ghost use Rattle.kind_counted.specs.Limits.{number_limit, count_limit};
 ghost use Rattle.kind_counted.specs.Numbers.{AreSmall, no_numbers, point_of};
 
@@ -17,13 +17,11 @@ pub struct Counts {
 }
 
 impl Counts {
-    ghost use Rattle.std.specs.Prelude.{◌≢◌, ◌+ℤ◌, set, false};
+    ghost use Rattle.std.specs.Prelude.{◌+ℤ◌, set, false};
     ghost use Rattle.law_machines.specs.Counted.{once};
     ghost use Rattle.kind_counted.specs.States.{IsCount};
     ghost use Rattle.kind_counted.specs.inside.Rows.{IsCleared};
     ghost use Rattle.kind_counted.specs.inside.Spans.{IsLessened};
-    ghost use Rattle.kind_counted.specs.Pass.{is_small, sized, cleared};
-    ghost use Rattle.kind_counted.specs.inside.Agreement.{AgreesWith};
 
     // 0 for each count.
     pub(crate) fn zeros() -> Counts
@@ -39,8 +37,6 @@ impl Counts {
         requires { unsigned_abs f ≤ number_limit }
         ensures less { IfSome result
             (λ v. point_of v.numbers ≡ less (point_of self.now.numbers) f (point_of row.now.numbers)) }
-        ensures none { IfNone result
-            (is_small (less (point_of self.now.numbers) f (point_of row.now.numbers)) ≡ false) }
     {
         let mut numbers = self.numbers;
         for x in 0..MAX_COUNTS {
@@ -57,8 +53,6 @@ impl Counts {
             (λ v. IsCleared (point_of self.now.numbers) (point_of row.now.numbers) place (point_of v.numbers)) }
         ensures fails { result ≡ Err Refused.Fails → (q : ℤ) →
             point_of self.now.numbers place ≡ q *ℤ point_of row.now.numbers place → ⊥ }
-        ensures pass { AgreesWith (λ v. point_of v.numbers)
-            (cleared place (point_of self.now.numbers) (point_of row.now.numbers)) result }
     {
         match quotient(self.numbers[place], row.numbers[place]) {
             Some(q) => match self.less(q, row) {
@@ -76,9 +70,6 @@ impl Counts {
         ensures lessened { IfOk result
             (λ v. IsLessened (point_of self.now.numbers) (point_of row.now.numbers) place (point_of v.numbers)) }
         ensures large { result ≡ Err Refused.Fails → ⊥ }
-        ensures pass { AgreesWith (λ v. point_of v.numbers) (sized (less (point_of self.now.numbers)
-            (int_div (point_of self.now.numbers place) (point_of row.now.numbers place))
-            (point_of row.now.numbers))) result }
     {
         match self.less(rounded(self.numbers[place], row.numbers[place]), row) {
             Some(rest) => Ok(rest),
@@ -91,8 +82,6 @@ impl Counts {
         ensures minus { IfOk result
             (λ v. (x : ℕ) → point_of v.numbers x ≡ point_of self.now.numbers x -ℤ point_of other.now.numbers x) }
         ensures large { result ≡ Err Refused.Fails → ⊥ }
-        ensures pass { AgreesWith (λ v. point_of v.numbers)
-            (sized (λ x. point_of self.now.numbers x -ℤ point_of other.now.numbers x)) result }
     {
         match self.less(1, other) {
             Some(rest) => Ok(rest),
@@ -106,8 +95,6 @@ impl Counts {
         ensures more { IfOk result
             (λ v. (x : ℕ) → point_of v.numbers x ≡ point_of self.now.numbers x +ℤ pos (once count x)) }
         ensures large { result ≡ Err Refused.Fails → ⊥ }
-        ensures pass { AgreesWith (λ v. point_of v.numbers)
-            (sized (λ x. point_of self.now.numbers x +ℤ pos (once count x))) result }
     {
         match count {
             Some(count) => self.with(count.number, self.numbers[count.number] + 1),
@@ -121,8 +108,6 @@ impl Counts {
         ensures less { IfOk result
             (λ v. (x : ℕ) → point_of v.numbers x ≡ point_of self.now.numbers x -ℤ pos (once count x)) }
         ensures large { result ≡ Err Refused.Fails → ⊥ }
-        ensures pass { AgreesWith (λ v. point_of v.numbers)
-            (sized (λ x. point_of self.now.numbers x -ℤ pos (once count x))) result }
     {
         match count {
             Some(count) => self.with(count.number, self.numbers[count.number] - 1),
@@ -135,8 +120,6 @@ impl Counts {
         requires { place < count_limit }
         ensures with { IfOk result (λ v. v.numbers ≡ set self.now.numbers place number) }
         ensures large { result ≡ Err Refused.Fails → ⊥ }
-        ensures pass { (f : Point) → f place ≡ number → ((x : ℕ) → x ≢ place → f x ≡ point_of self.now.numbers x) →
-            AgreesWith (λ v. point_of v.numbers) (sized f) result }
     {
         if number < -MAX_NUMBER || number > MAX_NUMBER {
             return Err(Refused::TooLarge);
@@ -166,7 +149,6 @@ fn less_at(number: i64, f: i64, other: i64) -> Option<i64>
     requires other { unsigned_abs other ≤ number_limit }
     ensures is { IfSome result (λ n. n ≡ number -ℤ (f *ℤ other)) }
     ensures small { IfSome result (λ n. unsigned_abs n ≤ number_limit) }
-    ensures large { IfNone result (number_limit < unsigned_abs (number -ℤ (f *ℤ other))) }
 {
     let less = number - f * other;
     if less < -MAX_NUMBER || less > MAX_NUMBER {

@@ -1,5 +1,5 @@
 // A base, and all points that are further by multiples of some rows.
-ghost use Rattle.std.specs.Prelude.{◌≡◌, ◌↔◌, ◌+◌, ◌-◌, ◌<◌, ◌≤◌, ℕ, ℤ, pos, List, IsTrue, IfSome, IfOk, OnErr, slice_index, option_map};
+ghost use Rattle.std.specs.Prelude.{◌≡◌, ◌↔◌, ◌+◌, ◌-◌, ◌<◌, ◌≤◌, pos, List, IsTrue, IfSome, IfOk, OnErr, slice_index};
 ghost use Rattle.std.specs.Int.RustNames.{unsigned_abs};
 ghost use Rattle.law_machines.specs.Cosets.{Point, IsMember};
 ghost use Rattle.kind_counted.specs.Items.{coset_of};
@@ -9,9 +9,6 @@ ghost use Rattle.kind_counted.specs.Numbers.{point_of};
 ghost use Rattle.kind_counted.specs.Pivots.{points};
 ghost use Rattle.kind_counted.specs.inside.Spans.{listed, IsSplit};
 ghost use Rattle.kind_counted.specs.inside.Points.{coset_by, AreMoved, AreZeroMembers, AreKeptIn, IsZeroIn, AreZeroAt, IsNegativeAt, IsNegative, AreSumsOf, LiesWithin};
-ghost use Rattle.std.specs.List.{range_with_len};
-ghost use Rattle.kind_counted.specs.Pass.{each, inside, all_inside, moved_coset, kept, kept_at, zero_at, zero_of};
-ghost use Rattle.kind_counted.specs.inside.Agreement.{AgreesWith, Tells, not_in};
 ghost use Rattle.kind_counted.specs.declared.numbers.Counts.{Counts};
 
 use crate::item::Coset;
@@ -43,7 +40,6 @@ impl Points {
         requires fewer { IsCount fewer }
         ensures moved { IfOk result (λ p. AreMoved (coset_of k.now) more fewer (coset_by p.base p.rows.items)) }
         ensures large { result ≡ Err Refused.Fails → ⊥ }
-        ensures pass { AgreesWith (λ p. coset_by p.base p.rows.items) (moved_coset (coset_of k.now) more fewer) result }
     {
         let rows = rows_of(alloc, k)?;
         let base = k.base.one_more(more)?.one_less(fewer)?;
@@ -66,9 +62,6 @@ impl Points {
             (coset_by p.base p.rows.items)) }
         ensures none { result ≡ Err Refused.Fails → (v : Point) → IsMember (coset_by self.base self.rows.items) v →
             IsZeroIn from to (slice_index used.now.sets.items state) v → ⊥ }
-        ensures pass { AgreesWith (λ p. coset_by p.base p.rows.items)
-            (kept (not_in used.now.sets.items) state (range_with_len from (to - from))
-            (coset_by self.base self.rows.items)) result }
     {
         let mut points = self;
         for x in from..to {
@@ -90,8 +83,6 @@ impl Points {
             (slice_index used.now.sets.items state) (coset_by p.base p.rows.items)) }
         ensures none { result ≡ Err Refused.Fails → (v : Point) → IsMember (coset_by self.base self.rows.items) v →
             IsZeroIn place (place + 1) (slice_index used.now.sets.items state) v → ⊥ }
-        ensures pass { AgreesWith (λ p. coset_by p.base p.rows.items)
-            (kept_at (not_in used.now.sets.items) state (coset_by self.base self.rows.items) place) result }
     {
         if used.has(state, place) {
             return Ok(self);
@@ -140,7 +131,6 @@ impl Points {
         ensures within { IfOk result (λ _. LiesWithin (coset_by self.now.base self.now.rows.items) (coset_of k.now)) }
         ensures fails { result ≡ Err Refused.Fails →
             LiesWithin (coset_by self.now.base self.now.rows.items) (coset_of k.now) → ⊥ }
-        ensures pass { Tells (all_inside (coset_by self.now.base self.now.rows.items) (coset_of k.now)) result }
     {
         let apart = self.base.minus(&k.base)?;
         Row::sum_to(&k.rows, &apart)?;
@@ -152,7 +142,6 @@ impl Points {
         ensures sums { IfOk result (λ _. AreSumsOf (points k.now.rows.items) (listed self.now.rows.items)) }
         ensures fails { result ≡ Err Refused.Fails →
             AreSumsOf (points k.now.rows.items) (listed self.now.rows.items) → ⊥ }
-        ensures pass { Tells (each (inside (points k.now.rows.items)) (listed self.now.rows.items)) result }
     {
         for row in self.rows.iter() {
             Row::sum_to(&k.rows, row)?;
@@ -168,8 +157,6 @@ impl Points {
         ensures none { result ≡ Err Refused.Fails → (v : Point) →
             IsMember (coset_by self.now.base self.now.rows.items) v →
             v place ≡ pos 0 → ⊥ }
-        ensures pass { AgreesWith (λ p. coset_by p.base p.rows.items)
-            (zero_at place (coset_by self.now.base self.now.rows.items)) result }
     {
         let split = split_at(alloc, &self.rows, place)?;
         zero_of(&self.base, split, place)
@@ -186,9 +173,6 @@ fn zero_of(base: &Counts, split: Split, place: usize) -> Result<Points, Refused>
     ensures none { result ≡ Err Refused.Fails → (rows : List Counts) →
         IsSplit (listed rows) place split.carrier (listed split.rest.items) →
         (v : Point) → IsMember (coset_by base.now rows) v → v place ≡ pos 0 → ⊥ }
-    ensures pass { AgreesWith (λ p. coset_by p.base p.rows.items)
-        (zero_of place (point_of base.now.numbers) (listed split.rest.items)
-        (option_map (λ row. point_of row.numbers) split.carrier)) result }
 {
     match split.carrier {
         Some(carrier) => Ok(Points {

@@ -11,6 +11,8 @@ pub record Meaning : Type 1 where
   pub within : Type 0
   -- to check it takes more paths than may be kept
   pub wide : Packed → Type 0
+  -- its check of the table may end at a number that is too large for it, without having seen whether it is so
+  pub overflows : Packed → Type 0
   -- it is so of the table
   pub stands : Packed → Type 0
   -- its check of the table may end without having seen whether it is so

@@ -35,6 +35,7 @@ named_kind = record {
     made_for = λ n. Unit {0};
     within = Unit {0};
     wide = λ p. ⊥;
+    overflows = λ p. ⊥;
     stands = NeverByName;
     unseen = λ p. p ≡ skelet1;
     takes_memory = λ p. p ≡ skelet1;

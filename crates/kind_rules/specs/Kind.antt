@@ -17,6 +17,7 @@ rules_kind = record {
     made_for = λ n. t.states ≡ n;
     within = AreWithinRuleLimits t;
     wide = λ p. ⊥;
+    overflows = λ p. ⊥;
     stands = λ p. AreRulesOf t p;
     unseen = λ p. ⊥;
     takes_memory = λ p. Unit {0};

@@ -12,7 +12,7 @@ use Rattle.kind_evidence.specs.declared.verdicts.Ending.TheVariants.{Halts, Neve
 use Rattle.law_tree.specs.Closed.{Mark, Halting, NeverHalting, Holdout, IsVerdict, IsOpen}
 use Rattle.law_tree.specs.Tables.{IsChildTable}
 use Rattle.law_tree.proofs.TableLaws.{tree_alike, tree_table_child}
-use Rattle.cert.specs.Claim.{Claim, Recorded, ending_by}
+use Rattle.cert.specs.Claim.{Claim, Recorded, MayOverflow, ending_by}
 use Rattle.cert.specs.Certified.{IsCertified}
 use Rattle.cert.specs.Scored.{scored, with_score}
 use Rattle.cert.proofs.Scores.{score_certified, scored_ends}
@@ -240,7 +240,7 @@ agree_settled root ks rs r agree resolves =
     (λ d is. let same : c.0 ≡ d = cc (c.1, is) in subst (λ (x : Claim). ending_by x ≡ None) same none)
     (settling_fit root ks rs r agree resolves).place
 
--- what is fit now is taken, unless memory is refused
+-- what is fit now is taken, unless memory is refused or its check may overflow
 fit_states : (root : Packed) (rs : List Recorded) (r : Recorded) → IsTable root → IsHeld root rs → IsFit root rs r ⊎ Resolves rs r → r.table.states ≡ root.states
 fit_states root rs r table is_held (inl fit) = (tree_alike root r.table table (open_in_tree root rs r.table tree_table_child is_held fit.is_open)).states
 fit_states root rs r table is_held (inr resolves) =
@@ -271,10 +271,10 @@ fit_or_known root rs r (inr resolves) known = elim known.is [
 ]
 
 pub fit_or_refused : (root : Packed) (rs : List Recorded) (r : Recorded) (f : OfferFault) (new : List Recorded) → IsTable root → IsHeld root rs → IsFit root rs r ⊎ Resolves rs r
-    → OfferGives root rs r (Err f) new → f ≢ NoMemory → ⊥
-fit_or_refused root rs r WrongSize new table is_held fit gives no_memory = gives.0 (fit_states root rs r table is_held fit)
-fit_or_refused root rs r NotOpen new table is_held (inl fit) gives no_memory = gives.1.not_open fit.is_open
+    → OfferGives root rs r (Err f) new → f ≢ NoMemory → MayOverflow r.claim r.table
+fit_or_refused root rs r WrongSize new table is_held fit gives no_memory = absurd (gives.0 (fit_states root rs r table is_held fit))
+fit_or_refused root rs r NotOpen new table is_held (inl fit) gives no_memory = absurd (gives.1.not_open fit.is_open)
 fit_or_refused root rs r NotOpen new table is_held (inr resolves) gives no_memory =
     let c = holdout_claim rs r.table resolves.is_holdout in let gone = gives.1.unrecorded in let there = c.1 in absurd (cc)
 fit_or_refused root rs r (IsRefused f) new table is_held fit gives no_memory = refused_or_certified f r gives.1 (fit_certified root rs r fit)
-fit_or_refused root rs r NoMemory new table is_held fit gives no_memory = no_memory refl
+fit_or_refused root rs r NoMemory new table is_held fit gives no_memory = absurd (no_memory refl)

@@ -3,14 +3,14 @@ use Rattle.std.proofs.Common.{◌≡◌, ℕ, List, [], ◌∷◌, ◌++◌, len
 use Rattle.std.proofs.lemmas.List.{append_cancel_left}
 use Rattle.machine_text.specs.Packed.{Packed, IsTable}
 use Rattle.machine_text.specs.Text.{table_of}
-use Rattle.cert.specs.Claim.{Recorded}
+use Rattle.cert.specs.Claim.{Recorded, MayOverflow}
 use Rattle.ledger.specs.Held.{IsFit, Resolves}
 use Rattle.ledger.specs.Offers.{OfferGives}
 use Rattle.text.specs.Lines.{joined, BeginsWithLine}
 use Rattle.ledger.specs.Versions.{header_words, ledger_record}
 use Rattle.ledger.specs.declared.format.Format.{Format}
 use Rattle.ledger.specs.LedgerText.{HasHeader, AreTaken, IsUnkept, ReadsAs}
-use Rattle.ledger.specs.LedgerLaws.{IsLongest}
+use Rattle.ledger.specs.LedgerLaws.{BeginsToOverflow, IsLongest}
 use Rattle.ledger.specs.Lists.{IsFitAfter, AreKept, held, Offer, AreOffered, answered, answered_with, AreFitLines}
 use Rattle.ledger.specs.declared.taken.Taken.{Taken}
 use Rattle.ledger.specs.declared.taken.Taken.TheVariants.{New, Known, Settled}
@@ -36,7 +36,7 @@ one_offer root ks rs mid new rest r (Ok Settled) table agree gives later =
     (w.0, inl (settling_fit root ks rs r agree gives.0, w.1), w.2)
 one_offer root ks rs mid new rest r (Ok Known) table agree gives later =
     let w = later ks (subst (Agree root ks) (sym gives.1) agree) in
-    (w.0, inr (λ fit. fit_or_known root rs r (fit_now root ks rs r agree fit) gives.0, w.1), w.2)
+    (w.0, inr (λ fit. absurd (fit_or_known root rs r (fit_now root ks rs r agree fit) gives.0), w.1), w.2)
 one_offer root ks rs mid new rest r (Err NoMemory) table agree gives later = later ks (subst (Agree root ks) (sym gives.1) agree)
 one_offer root ks rs mid new rest r (Err WrongSize) table agree gives later =
     let w = later ks (subst (Agree root ks) (sym gives.1) agree) in
@@ -71,34 +71,43 @@ fit_lines format root ks rs new (line ∷ lines) agree taken = elim taken.4 [
       (later.0, (taken.0, taken.2, taken.3, settling_fit root ks rs taken.0 agree w.0, later.1), later.2)
 ]
 
--- where nothing more is kept, no line is fit
+-- where nothing more is kept, no line is fit, but one whose check may overflow
 one_read : (format : Format) (line line' : List ℕ) (r r' : Recorded) → line ≡ line' → ledger_record format line ≡ Ok r → ledger_record format line' ≡ Ok r' → r ≡ r'
 one_read format line line' r r' same is is' = let e = ap (ledger_record format) same in cc
 
 stuck : (format : Format) (root : Packed) (ks rs : List Recorded) (rest line after : List ℕ) (r : Recorded) (why : Unkept) → IsTable root → Agree root ks rs → BeginsWithLine rest line after
-    → ledger_record format line ≡ Ok r → IsFitAfter root ks r → IsUnkept format root rs rest why → ⊥
-stuck format root ks rs rest line after r Torn table agree begins reads fit is = line_has_newline begins is.0
+    → ledger_record format line ≡ Ok r → IsFitAfter root ks r → IsUnkept format root rs rest why → MayOverflow r.claim r.table
+stuck format root ks rs rest line after r Torn table agree begins reads fit is = absurd (line_has_newline begins is.0)
 stuck format root ks rs rest line after r (Unread f) table agree begins reads fit is = let same = ap (ledger_record format) (same_line begins is.2).0 in let bad = is.3 in absurd (cc)
 stuck format root ks rs rest line after r (Unfit f) table agree begins reads fit is =
     let w = is.3.1 in
     let same : r ≡ w.0 = one_read format line is.0 r w.0 (same_line begins is.2).0 reads w.1 in
-    fit_or_refused root rs w.0 f rs table agree.is_held (subst (λ (x : Recorded). IsFit root rs x ⊎ Resolves rs x) same (fit_now root ks rs r agree fit)) w.2 is.3.0
+    subst (λ (x : Recorded). MayOverflow x.claim x.table) (sym same)
+    (fit_or_refused root rs w.0 f rs table agree.is_held (subst (λ (x : Recorded). IsFit root rs x ⊎ Resolves rs x) same (fit_now root ks rs r agree fit)) w.2 is.3.0)
 stuck format root ks rs rest line after r Repeated table agree begins reads fit is =
     let w = is.3 in
     let same : r ≡ w.0 = one_read format line is.0 r w.0 (same_line begins is.2).0 reads w.1 in
-    fit_or_known root rs w.0 (subst (λ (x : Recorded). IsFit root rs x ⊎ Resolves rs x) same (fit_now root ks rs r agree fit)) w.2.0
+    absurd (fit_or_known root rs w.0 (subst (λ (x : Recorded). IsFit root rs x ⊎ Resolves rs x) same (fit_now root ks rs r agree fit)) w.2.0)
 
--- any list of whole lines that are fit in their turn is a beginning of those that are taken up to such an end
+-- any list of whole lines that are fit in their turn is a beginning of those that are taken up to such an end, unless the
+-- check of the next record may overflow
 begins_all : (format : Format) (root : Packed) (ks rs new : List Recorded) (lines : List (List ℕ)) (rest : List ℕ) (others : List (List ℕ)) (rest' : List ℕ) (kept : List Recorded) → IsTable root
     → Agree root ks rs → AreTaken format root rs lines new → EndsAt format root new rest → joined lines ++ rest ≡ joined others ++ rest' → AreFitLines format root ks others kept
-    → (more : List (List ℕ)) × (lines ≡ others ++ more)
-begins_all format root ks rs new lines rest [] rest' kept table agree taken ends is fit = (lines, refl)
+    → ((more : List (List ℕ)) × (lines ≡ others ++ more)) ⊎ BeginsToOverflow format rest
+begins_all format root ks rs new lines rest [] rest' kept table agree taken ends is fit = inl (lines, refl)
 begins_all format root ks rs new [] rest (other ∷ others) rest' kept table agree taken ends is fit =
     let begins : BeginsWithLine rest other (joined others ++ rest') = record { is = is ∙ append_assoc other (10 ∷ joined others) rest'; one_line = fit.1 } in
-    absurd (elim ends [
-      | inl none ↦ let front = sym none ∙ begins.is in no_line other (joined others ++ rest') front
-      | inr u ↦ stuck format root ks rs rest other (joined others ++ rest') fit.0 u.0 table agree begins fit.2 fit.3 (subst (λ (l : List Recorded). IsUnkept format root l rest u.0) taken u.1)
-    ])
+    elim ends [
+      | inl none ↦ let front = sym none ∙ begins.is in absurd (no_line other (joined others ++ rest') front)
+      | inr u ↦ inr (record {
+        line = other;
+        after = joined others ++ rest';
+        begins = begins;
+        r = fit.0;
+        reads = fit.2;
+        may_overflow = stuck format root ks rs rest other (joined others ++ rest') fit.0 u.0 table agree begins fit.2 fit.3 (subst (λ (l : List Recorded). IsUnkept format root l rest u.0) taken u.1);
+      })
+    ]
   where
     no_line : (line more : List ℕ) → [] ≡ line ++ (10 ∷ more) → ⊥
     no_line [] more e = cc
@@ -113,20 +122,31 @@ begins_all format root ks rs new (line ∷ lines) rest (other ∷ others) rest' 
       | inl w ↦ subst (Agree root (ks ++ (taken.0 ∷ []))) (sym w.1) (agree_new root ks rs taken.0 agree w.0)
       | inr w ↦ subst (Agree root (ks ++ (taken.0 ∷ []))) (sym w.1) (agree_settled root ks rs taken.0 agree w.0)
     ] in
-    let later = begins_all format root (ks ++ (taken.0 ∷ [])) taken.1 new lines rest others rest' kept table then taken.5 ends same.1 under in
-    (later.0, ap (λ (l : List ℕ). l ∷ lines) same.0 ∙ ap (λ (l : List (List ℕ)). other ∷ l) later.1)
+    elim (begins_all format root (ks ++ (taken.0 ∷ [])) taken.1 new lines rest others rest' kept table then taken.5 ends same.1 under) [
+      | inl later ↦ inl (later.0, ap (λ (l : List ℕ). l ∷ lines) same.0 ∙ ap (λ (l : List (List ℕ)). other ∷ l) later.1)
+      | inr overflows ↦ inr overflows
+    ]
+
+-- such lines of a text's body begin those that are kept of it
+begins_kept : (root : Packed) (text : List ℕ) (rs : List Recorded) (left : Left) → IsTable root → (reads : ReadsAs root text rs left) → (others : List (List ℕ)) (rest : List ℕ) (kept : List Recorded) →
+    reads.body ≡ joined others ++ rest → AreFitLines reads.header.format root [] others kept
+    → ((more : List (List ℕ)) × (reads.keeps.lines ≡ others ++ more)) ⊎ BeginsToOverflow reads.header.format reads.keeps.rest
+begins_kept root text rs left table reads others rest kept is fit =
+    let keeps = reads.keeps in
+    let format = reads.header.format in
+    begins_all format root [] [] rs keeps.lines keeps.rest others rest kept table (agree_none root) keeps.taken (ends_by format root rs _ _ keeps.rest left keeps.ends) (sym keeps.is ∙ is) fit
 
 pub longest : (root : Packed) (text : List ℕ) (rs : List Recorded) (left : Left) → IsTable root → (reads : ReadsAs root text rs left) → IsLongest reads.header.format root reads.body reads.keeps.lines rs
 longest root text rs left table reads =
-    let keeps = reads.keeps in
-    let format = reads.header.format in
-    let found = fit_lines format root [] [] rs keeps.lines (agree_none root) keeps.taken in
+    let found = fit_lines reads.header.format root [] [] rs reads.keeps.lines (agree_none root) reads.keeps.taken in
     record {
       kept = found.0;
       fit = found.1;
       records = found.2;
-      longest = λ others rest kept is fit.
-          begins_all format root [] [] rs keeps.lines keeps.rest others rest kept table (agree_none root) keeps.taken (ends_by format root rs _ _ keeps.rest left keeps.ends) (sym keeps.is ∙ is) fit;
+      longest = λ others rest kept is fit. elim (begins_kept root text rs left table reads others rest kept is fit) [
+        | inl more ↦ inl more
+        | inr overflows ↦ inr (reads.keeps.rest, reads.keeps.is, overflows)
+      ];
     }
 
 -- so there is one such list
@@ -153,25 +173,38 @@ one_root text root other body body' header header' =
     let same = ap table_of name in
     (cc, line.1, format)
 
-one_of_root : (root : Packed) (text : List ℕ) (rs rs' : List Recorded) (left left' : Left) → IsTable root → ReadsAs root text rs left → ReadsAs root text rs' left' → rs ≡ rs'
-one_of_root root text rs rs' left left' table reads reads' =
-    let one = one_root text root root reads.body reads'.body reads.header reads'.header in
-    let bodies = one.1 in
-    let format = reads.header.format in
-    let a = longest root text rs left table reads in
-    let b : IsLongest format root reads'.body reads'.keeps.lines rs' =
-    subst (λ (f : Format). IsLongest f root reads'.body reads'.keeps.lines rs') (sym one.2) (longest root text rs' left' table reads') in
-    let more = a.longest reads'.keeps.lines reads'.keeps.rest b.kept (bodies ∙ reads'.keeps.is) b.fit in
-    let less = b.longest reads.keeps.lines reads.keeps.rest a.kept (sym bodies ∙ reads.keeps.is) a.fit in
-    let lines : reads.keeps.lines ≡ reads'.keeps.lines = nothing_more reads.keeps.lines reads'.keeps.lines more.0 less.0 more.1 less.1 in
-    let fit = subst (λ (l : List (List ℕ)). AreFitLines format root [] l a.kept) lines a.fit in
-    a.records ∙ (ap held (one_kept format root [] reads'.keeps.lines a.kept b.kept fit b.fit) ∙ sym b.records)
+-- the records that two readings of a text come to, unless one of them ends before a record whose check may overflow
+abbrev pub AreOne : (root other : Packed) (text : List ℕ) (rs rs' : List Recorded) (left left' : Left) → ReadsAs root text rs left → ReadsAs other text rs' left' → Type 0
+AreOne root other text rs rs' left left' reads reads' =
+    (rs ≡ rs') ⊎ (BeginsToOverflow reads.header.format reads.keeps.rest ⊎ BeginsToOverflow reads'.header.format reads'.keeps.rest)
 
-pub reads_as_one : (root other : Packed) (text : List ℕ) (rs rs' : List Recorded) (left left' : Left) → IsTable root → ReadsAs root text rs left → ReadsAs other text rs' left'
-    → (root ≡ other) × (rs ≡ rs')
+one_of_root : (root : Packed) (text : List ℕ) (rs rs' : List Recorded) (left left' : Left) → IsTable root → (reads : ReadsAs root text rs left) → (reads' : ReadsAs root text rs' left')
+    → AreOne root root text rs rs' left left' reads reads'
+one_of_root root text rs rs' left left' table reads reads' =
+    let (same, bodies, formats) = one_root text root root reads.body reads'.body reads.header reads'.header in
+    let a = longest root text rs left table reads in
+    let b = longest root text rs' left' table reads' in
+    let lines = reads.keeps.lines in
+    let lines' = reads'.keeps.lines in
+    let fit_there : AreFitLines reads.header.format root [] lines' b.kept = subst (λ (f : Format). AreFitLines f root [] lines' b.kept) (sym formats) b.fit in
+    let fit_here : AreFitLines reads'.header.format root [] lines a.kept = subst (λ (f : Format). AreFitLines f root [] lines a.kept) formats a.fit in
+    elim (begins_kept root text rs left table reads lines' reads'.keeps.rest b.kept (bodies ∙ reads'.keeps.is) fit_there) [
+      | inr overflows ↦ inr (inl overflows)
+      | inl more ↦ elim (begins_kept root text rs' left' table reads' lines reads.keeps.rest a.kept (sym bodies ∙ reads.keeps.is) fit_here) [
+        | inr overflows ↦ inr (inr overflows)
+        | inl less ↦
+            let same_lines : lines ≡ lines' = nothing_more lines lines' more.0 less.0 more.1 less.1 in
+            let fit = subst (λ (l : List (List ℕ)). AreFitLines reads.header.format root [] l a.kept) same_lines a.fit in
+            inl (a.records ∙ (ap held (one_kept reads.header.format root [] lines' a.kept b.kept fit fit_there) ∙ sym b.records))
+      ]
+    ]
+
+pub reads_as_one : (root other : Packed) (text : List ℕ) (rs rs' : List Recorded) (left left' : Left) → IsTable root → (reads : ReadsAs root text rs left) → (reads' : ReadsAs other text rs' left')
+    → (root ≡ other) × AreOne root other text rs rs' left left' reads reads'
 reads_as_one root other text rs rs' left left' table reads reads' =
     let same = (one_root text root other reads.body reads'.body reads.header reads'.header).0 in
-    (same, one_of_root root text rs rs' left left' table reads (subst (λ (p : Packed). ReadsAs p text rs' left') (sym same) reads'))
+    let at_root : (reads' : ReadsAs root text rs' left') → AreOne root root text rs rs' left left' reads reads' = one_of_root root text rs rs' left left' table reads in
+    (same, subst (λ (p : Packed). (reads' : ReadsAs p text rs' left') → AreOne root p text rs rs' left left' reads reads') same at_root reads')
 
 pub reads_in_one : (root other : Packed) (text : List ℕ) (rs rs' : List Recorded) (left left' : Left) → (reads : ReadsAs root text rs left) → (same : ReadsAs other text rs' left')
     → reads.header.format ≡ same.header.format

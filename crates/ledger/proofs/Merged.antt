@@ -9,10 +9,9 @@ use Rattle.cert.specs.Certified.{IsCertified}
 use Rattle.cert.specs.Claim.{Claim, Recorded, ending_by}
 use Rattle.cert.specs.Scored.{scored, with_score}
 use Rattle.cert.proofs.Scores.{scored_ends}
-use Rattle.cert.proofs.Refusals.{refused_or_certified}
 use Rattle.ledger.specs.Records.{same_table, claim_in, mark_in, mark_of, mark_by, ending_in, ending_where}
 use Rattle.ledger.specs.Held.{IsFit, AreFitAfter}
-use Rattle.ledger.specs.Offers.{IsKnown, OfferGives}
+use Rattle.ledger.specs.Offers.{IsKnown, OfferGives, IsRefusedOnly}
 use Rattle.ledger.specs.Contents.{Contents, IsBoard}
 use Rattle.ledger.specs.Merging.{AreTakenIn, IsMerged, MergeGives}
 use Rattle.ledger.specs.declared.taken.Taken.{Taken}
@@ -157,8 +156,8 @@ open_joined root a start cur t true_marks marks is_open none = record {
 
 -- so none of another board's records is refused, but for want of memory
 never_refused : (other : Contents) (old left rest cur new : List Recorded) (r : Recorded) (f : OfferFault) → Below → OfTables → AreTrueMarks (mark_in old) → IsBoard other
-    → MergedSoFar other.root old other.records left cur → left ≡ r ∷ rest → f ≢ NoMemory → OfferGives other.root cur r (Err f) new → ⊥
-never_refused other old left rest cur new r f below tables true_marks board before next no_memory gives = refused f no_memory gives
+    → MergedSoFar other.root old other.records left cur → left ≡ r ∷ rest → f ≢ NoMemory → OfferGives other.root cur r (Err f) new → IsRefusedOnly ⊥ f → ⊥
+never_refused other old left rest cur new r f below tables true_marks board before next no_memory gives stands = refused f no_memory gives stands
   where
     split : other.records ≡ before.start ++ (r ∷ rest)
     split = before.split ∙ ap (λ (l : List Recorded). before.start ++ l) next
@@ -170,12 +169,12 @@ never_refused other old left rest cur new r f below tables true_marks board befo
     recorded = ap (λ (l : List Recorded). claim_in l r.table) split
         ∙ (claim_more before.start (r ∷ rest) r.table (unmarked (claim_in before.start r.table) fit.is_open.unmarked) ∙ claim_here r rest r.table (same_itself r.table))
 
-    refused : (f : OfferFault) → f ≢ NoMemory → OfferGives other.root cur r (Err f) new → ⊥
-    refused WrongSize no_memory gives = gives.0 (tables other.root r.table board.is_table (recorded_in_tree other.root other.records r.table r.claim below board.held recorded)).1
-    refused NotOpen no_memory gives =
+    refused : (f : OfferFault) → f ≢ NoMemory → OfferGives other.root cur r (Err f) new → IsRefusedOnly ⊥ f → ⊥
+    refused WrongSize no_memory gives stands = gives.0 (tables other.root r.table board.is_table (recorded_in_tree other.root other.records r.table r.claim below board.held recorded)).1
+    refused NotOpen no_memory gives stands =
         gives.1.not_open (open_joined other.root old before.start cur r.table true_marks before.marks fit.is_open (ap (option_map mark_of) gives.1.unrecorded))
-    refused (IsRefused f) no_memory gives = refused_or_certified f r gives.1 fit.certified
-    refused NoMemory no_memory gives = no_memory refl
+    refused (IsRefused f) no_memory gives stands = stands
+    refused NoMemory no_memory gives stands = no_memory refl
 
 -- the verdict of a mark
 abbrev pub shown_mark : Option Mark → Option Ending
@@ -264,10 +263,10 @@ merged_all root old all left cur one is_old is_all so_far none =
     )
 
 pub never_refused_here : (root : Packed) (other : Contents) (old left rest cur new : List Recorded) (r : Recorded) (f : OfferFault) → Below → OfTables → AreTrueMarks (mark_in old) → IsBoard other → root ≡ other.root
-    → MergedSoFar root old other.records left cur → left ≡ r ∷ rest → f ≢ NoMemory → OfferGives root cur r (Err f) new → ⊥
-never_refused_here root other old left rest cur new r f below tables true_marks board same before next no_memory gives =
+    → MergedSoFar root old other.records left cur → left ≡ r ∷ rest → f ≢ NoMemory → OfferGives root cur r (Err f) new → IsRefusedOnly ⊥ f → ⊥
+never_refused_here root other old left rest cur new r f below tables true_marks board same before next no_memory gives stands =
     never_refused other old left rest cur new r f below tables true_marks board (subst (λ (p : Packed). MergedSoFar p old other.records left cur) same before) next no_memory
-    (subst (λ (p : Packed). OfferGives p cur r (Err f) new) same gives)
+    (subst (λ (p : Packed). OfferGives p cur r (Err f) new) same gives) stands
 
 -- no offer changes the records of a complete board, and so no merge does
 pub offer_is_final : (root : Packed) (old new : List Recorded) (r : Recorded) (answer : Result Taken OfferFault) → IsComplete root (mark_in old) → OfferGives root old r answer new → new ≡ old

@@ -3,7 +3,7 @@ use Rattle.std.specs.Prelude.{◌≡◌, ◌≢◌, ℕ, ◌⊎◌, if◌then◌
 use Rattle.machine_text.specs.Packed.{Packed}
 use Rattle.kind_evidence.specs.declared.verdicts.Ending.TheVariants.{Halts}
 use Rattle.law_tree.specs.Tables.{IsChildTable}
-use Rattle.cert.specs.Claim.{Recorded, ending_by}
+use Rattle.cert.specs.Claim.{Recorded, MayOverflow, ending_by}
 use Rattle.cert.specs.Certified.{IsCertified}
 use Rattle.cert.specs.Scored.{with_score}
 use Rattle.ledger.specs.Versions.{ledger_record}
@@ -29,12 +29,13 @@ pub record IsFitAfter (root : Packed) (earlier : List Recorded) (r : Recorded) :
   pub not_again : ending_by r.claim ≡ None → (e : Recorded) → Contains earlier e → e.table ≢ r.table
   pub certified : IsCertified r
 
--- with the fit records of a list, each of which is fit after those before it, the earlier ones are these
+-- with the fit records of a list, each of which is fit after those before it, the earlier ones are these; one whose
+-- check may overflow may be left out
 abbrev pub AreKept : Packed → List Recorded → List Recorded → List Recorded → Type 0
 AreKept root earlier [] kept = kept ≡ earlier
 AreKept root earlier (r ∷ rs) kept =
     (IsFitAfter root earlier r × AreKept root (earlier ++ (r ∷ [])) rs kept)
-    ⊎ ((IsFitAfter root earlier r → ⊥) × AreKept root earlier rs kept)
+    ⊎ ((IsFitAfter root earlier r → MayOverflow r.claim r.table) × AreKept root earlier rs kept)
 
 -- the records with one more: in the place of that of its table, or last where there is none
 unfoldable pub placed : List Recorded → Recorded → List Recorded

@@ -32,6 +32,13 @@ pub record KeepsTree (old new : Contents) : Type 0 where
   pub format : new.format ≡ old.format
   pub complete : IsComplete old.root (mark_in old.records) → new.records ≡ old.records
 
+-- of the reasons why a record isn't taken, that its claim is refused is one only where this is so
+abbrev pub IsRefusedOnly : Type 0 → OfferFault → Type 0
+IsRefusedOnly so WrongSize = Unit {0}
+IsRefusedOnly so NotOpen = Unit {0}
+IsRefusedOnly so (IsRefused f) = so
+IsRefusedOnly so NoMemory = Unit {0}
+
 -- what an offered record does; it is held with its score, whether it came with it or not
 abbrev pub OfferGives : Packed → List Recorded → Recorded → Result Taken OfferFault → List Recorded → Type 0
 OfferGives root old r (Ok New) new = IsFit root old r × (new ≡ old ++ (with_score r ∷ []))

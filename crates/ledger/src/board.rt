@@ -93,9 +93,9 @@ impl Board {
     ghost use Rattle.cert.specs.Scored.{with_score};
     ghost use Rattle.ledger.specs.Records.{claim_in, mark_in, verdict_in};
     ghost use Rattle.ledger.specs.Held.{IsHoldout};
-    ghost use Rattle.ledger.specs.Offers.{KeepsTree, OfferGives};
+    ghost use Rattle.ledger.specs.Offers.{KeepsTree, OfferGives, IsRefusedOnly};
     ghost use Rattle.ledger.specs.inside.Open.{IsOpener};
-    ghost use Rattle.ledger.specs.inside.Places.{IsJudgedSo, IsWhyRefused};
+    ghost use Rattle.ledger.specs.inside.Places.{IsUnjudged, IsJudgedSo, IsWhyRefused};
     ghost use Rattle.ledger.specs.inside.Waiting.{WaitsFor, TakesAs, put_by};
     ghost use Rattle.ledger.specs.inside.Trees.{IsTreeCount};
 
@@ -353,11 +353,12 @@ impl Board {
     }
 
     /// Offers a record that is certified already, as what a decider answers is. It does what `offer` does, but
-    /// the certificate isn't judged once more: only a table that halts is run, for its children.
+    /// the certificate isn't judged once more, and so not refused: only a table that halts is run, for its children.
     pub fn offer_certified(&mut self, r: &Record) -> Result<Taken, OfferFault>
         requires { IsCertified (recorded r.now) }
         ensures gives { OfferGives self.old.root self.old.records (recorded r.now) result self.new.records }
         ensures kept { KeepsTree self.old self.new }
+        ensures stands { IfErr result (IsRefusedOnly ⊥) }
     {
         self.put(r, Judging::Done)
     }
@@ -367,6 +368,7 @@ impl Board {
         requires { IsJudgedSo judging (recorded r.now) }
         ensures gives { OfferGives self.old.root self.old.records (recorded r.now) result self.new.records }
         ensures kept { KeepsTree self.old self.new }
+        ensures due { IfErr result (IsRefusedOnly (IsUnjudged judging)) }
     {
         if r.table.states() != self.root.states() {
             return Err(OfferFault::WrongSize);
@@ -387,6 +389,7 @@ impl Board {
         requires judged { IsJudgedSo judging (recorded r.now) }
         ensures gives { OfferGives self.old.root self.old.records (recorded r.now) result self.new.records }
         ensures kept { KeepsTree self.old self.new }
+        ensures due { IfErr result (IsRefusedOnly (IsUnjudged judging)) }
     {
         match footing {
             Footing::Known => Ok(Taken::Known),
@@ -427,6 +430,7 @@ impl Board {
         ensures root { self.new.root ≡ self.old.root }
         ensures format { self.new.format ≡ self.old.format }
         ensures refusal { IfErr result (λ f. IsWhyRefused f (recorded r.now)) }
+        ensures due { IfErr result (IsRefusedOnly (IsUnjudged judging)) }
     {
         child_is_table();
         let slot = waiting.slot(&self.records, &r.table);

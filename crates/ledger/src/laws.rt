@@ -1,5 +1,5 @@
 // What is true of all ledgers: laws over the definitions, each the contract of a function without a body.
-ghost use Rattle.std.specs.Prelude.{◌≡◌, ◌↔◌, ℕ, List, [], ◌∷◌, ◌++◌, take, Option, Some, Result, Ok, IsSome};
+ghost use Rattle.std.specs.Prelude.{◌≡◌, ◌↔◌, ◌⊎◌, ℕ, List, [], ◌∷◌, ◌++◌, take, Option, Some, Result, Ok, IsSome};
 ghost use Rattle.machine_text.specs.Packed.{Packed, IsTable, entry_of};
 ghost use Rattle.law_turing.specs.Halting.{HaltsAt, Never};
 ghost use Rattle.law_tree.specs.Best.{Scores};
@@ -24,10 +24,10 @@ ghost use Rattle.ledger.specs.Versions.{ledger_line, ledger_record};
 ghost use Rattle.ledger.specs.declared.format.Format.TheVariants.{One, Two};
 ghost use Rattle.ledger.specs.Lists.{AreKept, Offer, AreOffered, answered, held as held_of};
 ghost use Rattle.ledger.specs.LedgerText.{HasHeader, IsLedgerOf, IsTaken, ReadsAs, ReadsIn, ledger_text};
-ghost use Rattle.ledger.specs.LedgerLaws.{ReadsAsFirst, IsLongest};
+ghost use Rattle.ledger.specs.LedgerLaws.{BeginsToOverflow, ReadsAsFirst, IsLongest};
 
 /// After any list of offers to an empty board its records are those held of the fit ones among the offered
-/// records, except for those for which memory was refused.
+/// records, except for those for which memory was refused, and for some whose check may overflow.
 pub fn offers_are_held()
     ensures { (root : Packed) (offers : List Offer) (rs : List Recorded) → IsTable root → AreOffered root [] offers rs →
         (kept : List Recorded) × AreKept root [] (answered offers) kept × (rs ≡ held_of kept) }
@@ -52,18 +52,21 @@ pub fn ledgers_load_whole()
         → ReadsIn Two root (ledger_text root rs) rs Nothing }
 {}
 
-/// A text reads as one root and one list of records only, and in one version.
+/// A text reads as one root only, in one version, and as one list of records, unless one of two readings ends before a
+/// record whose check may overflow.
 pub fn ledgers_read_as_one()
     ensures records { (root other : Packed) (text : List ℕ) (rs others : List Recorded) (left more : LeftOver)
         → IsTable root →
-        ReadsAs root text rs left → ReadsAs other text others more → (root ≡ other) × (rs ≡ others) }
+        (reads : ReadsAs root text rs left) → (same : ReadsAs other text others more) → (root ≡ other)
+        × ((rs ≡ others) ⊎ (BeginsToOverflow reads.header.format reads.keeps.rest
+        ⊎ BeginsToOverflow same.header.format same.keeps.rest)) }
     ensures version { (root other : Packed) (text : List ℕ) (rs others : List Recorded) (left more : LeftOver) →
         (reads : ReadsAs root text rs left) → (same : ReadsAs other text others more)
         → reads.header.format ≡ same.header.format }
 {}
 
 /// The lines of a text that are kept are the longest list of whole lines behind its header of which each
-/// reads as a record that is fit in its turn.
+/// reads as a record that is fit in its turn, unless the check of the next one may overflow.
 pub fn ledgers_read_longest()
     ensures { (root : Packed) (text : List ℕ) (rs : List Recorded) (left : LeftOver) → IsTable root →
         (reads : ReadsAs root text rs left) → IsLongest reads.header.format root reads.body reads.keeps.lines rs }

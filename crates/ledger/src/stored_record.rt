@@ -6,7 +6,8 @@ ghost use Rattle.cert.specs.Kinds.{claim_of, owned_claim, recorded};
 ghost use Rattle.cert.specs.Scored.{scored};
 ghost use Rattle.ledger.specs.Held.{HasScore};
 ghost use Rattle.ledger.specs.inside.Changing.{changed_count, MayChange};
-ghost use Rattle.ledger.specs.inside.Places.{IsJudgedSo, IsWhyRefused};
+ghost use Rattle.ledger.specs.Offers.{IsRefusedOnly};
+ghost use Rattle.ledger.specs.inside.Places.{IsUnjudged, IsJudgedSo, IsWhyRefused};
 ghost use Rattle.ledger.specs.inside.Stored.{entry_recorded};
 
 use crate::faults::OfferFault;
@@ -71,6 +72,7 @@ impl StoredRecord {
         ensures parent { IfOk result (λ stored. stored.parent ≡ parent) }
         ensures tree { IfOk result (λ stored. stored.tree ≡ tree) }
         ensures refusal { IfErr result (λ f. IsWhyRefused f (recorded r.now)) }
+        ensures due { IfErr result (IsRefusedOnly (IsUnjudged judging)) }
     {
         let judged = judged_as(alloc, r, judging)?;
         let certificate = OwnedCertificate::of(alloc, &r.certificate)?.with_score(judged.verdict);
@@ -144,6 +146,7 @@ pub(crate) fn judged_as(alloc: Global, r: &Record, judging: Judging) -> Result<J
     requires { IsJudgedSo judging (recorded r.now) }
     ensures shown { IfOk result (IsShownBy (recorded r.now)) }
     ensures refusal { IfErr result (λ f. IsWhyRefused f (recorded r.now)) }
+    ensures due { IfErr result (IsRefusedOnly (IsUnjudged judging)) }
 {
     match judging {
         Judging::Due => judged(alloc, r),
@@ -156,6 +159,7 @@ pub(crate) fn judged_as(alloc: Global, r: &Record, judging: Judging) -> Result<J
 fn judged(alloc: Global, r: &Record) -> Result<Judged, OfferFault>
     ensures shown { IfOk result (IsShownBy (recorded r.now)) }
     ensures refusal { IfErr result (λ f. IsWhyRefused f (recorded r.now)) }
+    ensures due { IfErr result (IsRefusedOnly (IsUnjudged Judging.Due)) }
 {
     match judge_on(alloc, r) {
         Ok(judged) => Ok(judged),
@@ -169,9 +173,13 @@ fn certified(alloc: Global, r: &Record) -> Result<Judged, OfferFault>
     requires { IsCertified (recorded r.now) }
     ensures shown { IfOk result (IsShownBy (recorded r.now)) }
     ensures refusal { IfErr result (λ f. IsWhyRefused f (recorded r.now)) }
+    ensures due { IfErr result (IsRefusedOnly ⊥) }
 {
     match r.certificate.ending() {
-        Some(Ending::Halts(_)) => judged(alloc, r),
+        Some(Ending::Halts(_)) => match judge_on(alloc, r) {
+            Ok(judged) => Ok(judged),
+            Err(_) => Err(OfferFault::NoMemory),
+        },
         Some(Ending::Never) => Ok(Judged {
             verdict: Some(Verdict::Never),
             halts_on: None,

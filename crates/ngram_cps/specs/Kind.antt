@@ -45,6 +45,7 @@ ngram_kind = record {
     made_for = λ n. s.states ≡ n;
     within = AreWithin s;
     wide = λ p. ⊥;
+    overflows = λ p. ⊥;
     stands = λ p. AreLists s × IsPositionSet s p;
     unseen = λ p. ⊥;
     takes_memory = λ p. ⊥;

@@ -20,6 +20,7 @@ halts_meaning e = record {
   made_for = λ n. Unit {0};
   within = e.steps ≤ halt_step_limit;
   wide = λ p. ⊥;
+  overflows = λ p. ⊥;
   stands = HaltsAsClaimed e;
   unseen = λ p. ⊥;
   takes_memory = λ p. e.steps ≤ halt_step_limit;

@@ -1,6 +1,5 @@
 // What stands on the terminal of how far a command is, and how far the reading of files is.
-use crate::meter::{Meter, Work};
-use crate::progress::Telling;
+use crate::progress::{Meter, Telling, Work};
 use std::cell::{Cell, RefCell};
 use std::io::Write;
 
@@ -73,7 +72,7 @@ impl Watch {
             && let Some(meter) = reading.as_mut()
             && let Some(line) = meter.counted(count as u64, rt)
         {
-            self.show(rt, meter.telling(), &line);
+            self.show(rt, meter.telling, &line);
         }
     }
 
@@ -83,7 +82,7 @@ impl Watch {
             if let Some(meter) = reading.as_mut()
                 && let Some(line) = meter.last_line(rt)
             {
-                self.finish(rt, meter.telling(), &line);
+                self.finish(rt, meter.telling, &line);
             }
             *reading = None;
         }

@@ -14,7 +14,7 @@ use Rattle.cert.specs.Kinds.{recorded}
 use Rattle.cert.specs.declared.record.Record.{Record}
 use Rattle.cmd_lines.specs.Listed.{Found, ArePrinted, IsFoundIn, alone, first_ones, found_line, of_record, tables_of}
 use Rattle.cmd_lines.specs.Normal.{named_entry}
-use Rattle.cmd_lines.specs.Words.{words, tables_in, tables_of_line}
+use Rattle.cmd_lines.specs.Words.{columns, words, tables_in}
 use Rattle.cmd_lines.specs.declared.change.Change.{Change}
 use Rattle.cmd_lines.specs.declared.change.Change.TheVariants.{Mirrored, Lowered}
 
@@ -22,6 +22,10 @@ use Rattle.cmd_lines.specs.declared.change.Change.TheVariants.{Mirrored, Lowered
 abbrev pub words_left : Option (Bor (List ℕ)) → List (List ℕ)
 words_left None = []
 words_left (Some rest) = words rest.now
+
+abbrev pub columns_left : Option (Bor (List ℕ)) → List (List ℕ)
+columns_left None = []
+columns_left (Some rest) = columns rest.now
 
 abbrev pub left_tables : Option (Bor (List ℕ)) → List Packed
 left_tables None = []

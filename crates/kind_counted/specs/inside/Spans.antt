@@ -1,9 +1,8 @@
 -- Rows with the same sums of multiples; and rows taken off one another until one alone has a number in a place.
-use Rattle.std.specs.Prelude.{◌≡◌, ℕ, ◌<◌, ℤ, pos, List, ◌∷◌, map, get_or, Option, Some, None, IfSome, option_map}
+use Rattle.std.specs.Prelude.{◌≡◌, ℕ, ◌<◌, ℤ, pos, List, ◌∷◌, map, get_or, Option, Some, None, IfSome}
 use Rattle.std.specs.Int.RustNames.{unsigned_abs}
 use Rattle.law_machines.specs.Cosets.{Point, zeros, less, IsSum}
 use Rattle.kind_counted.specs.Numbers.{point_of}
-use Rattle.kind_counted.specs.Pass.{SplitRows, split_rows}
 use Rattle.kind_counted.specs.declared.numbers.Counts.{Counts}
 
 -- the sums of multiples of the ones are those of the others
@@ -25,10 +24,6 @@ pub record IsParted (first second : Point) (place : ℕ) (carrier other : Point)
 
 abbrev pub listed : List Counts → List Point
 listed rows = map (λ row. point_of row.numbers) rows
-
--- the rows of a split
-abbrev pub points_in : Option Counts → List Counts → SplitRows
-points_in carrier rest = split_rows (option_map (λ row. point_of row.numbers) carrier) (listed rest)
 
 abbrev pub with_carrier : Option Counts → List Point → List Point
 with_carrier None rest = rest

@@ -37,3 +37,9 @@ abbrev pub IsJudgedSo : Judging → Recorded → Type 0
 IsJudgedSo Due r = Unit {0}
 IsJudgedSo Done r = IsCertified r
 IsJudgedSo (Seen judged) r = IsShownBy r judged
+
+-- a record is yet to be judged
+abbrev pub IsUnjudged : Judging → Type 0
+IsUnjudged Due = Unit {0}
+IsUnjudged Done = ⊥
+IsUnjudged (Seen judged) = ⊥

@@ -1,22 +1,7 @@
-use Rattle.std.proofs.Common.{◌++◌, ◌∷◌, [], refl, subst}
-use Rattle.machine_text.specs.Text.{text_of}
-use Rattle.cmd_options.specs.declared.options.Showing.{Showing}
-use Rattle.cmd_show.specs.Shown.{IsShownRun}
-use Rattle.cmd_explain.proofs.ListTexts.{joined}
+use Rattle.cmd_explain.proofs.SeenSaying.{run_said}
 use Rattle.cmd_explain.proofs.seeing.append_run.Goals as goal
 
 pub returns : goal.returns
 returns c =
-    let table = text_of c.args.t.now in
-    let seen = c.in_ok-append_seen.ensures in
-    let shown = c.in_ok-append_shown.ensures in (
-      table ++ seen.0 ++ shown.0 ++ 10 ∷ [],
-      record {
-        words = seen.0;
-        shown = shown.0;
-        told = seen.1;
-        run = subst (λ (s : Showing). IsShownRun s c.args.t.now shown.0) c.first_steps.ensures shown.1;
-        is = refl;
-      },
-      joined _ _ _ (table ++ seen.0 ++ shown.0) _ (joined _ _ _ (table ++ seen.0) _ (joined _ _ _ table _ c.in_ok-append_table.ensures.ok seen.2) shown.2) c.in_ok-push.ensures.items,
-    )
+    run_said c.args.steps c.args.t.now c.in_ok-seen.seen _ _ _ _ _ c.in_ok-seen.ensures c.in_ok-append_answer.ensures
+    c.in_ok-extend_from_slice.ensures.items c.in_ok-push.ensures.items

@@ -1,7 +1,7 @@
 use Rattle.std.proofs.Common.{◌++◌, ◌∷◌, [], List, ℕ, ap, ◌∙◌, subst}
 use Rattle.cert.specs.Kinds.{read_as}
 use Rattle.cmd_lines.specs.Taken.{lent}
-use Rattle.cmd_explain.specs.SeenLines.{SeesRun}
+use Rattle.cmd_explain.specs.Seen.{SeesRun}
 use Rattle.cmd_explain.proofs.SeenSaying.{said_run, said_else}
 use Rattle.cmd_explain.proofs.seeing.see_line.Goals as goal
 

@@ -1,5 +1,4 @@
-use Rattle.std.proofs.Common.{ap, ◌∙◌, option_map}
-use Rattle.std.specs.Vec.{vec_items}
+use Rattle.std.proofs.Common.{ap, ◌∙◌, option_map, string_bytes}
 use Rattle.serde_json.specs.Written.{has_float}
 use Rattle.cert.specs.Kinds.{read_as}
 use Rattle.cmd_lines.specs.Taken.{lent}
@@ -11,4 +10,4 @@ pub append_object-requires : goal.append_object-requires
 append_object-requires c =
     let told = c.in_ok-told.told in
     ap has_float c.in_ok-object.ensures
-    ∙ explain_has_none c.args.number (lent c.args.line) (read_as c.read_line-read.result) (found told.finding) (option_map vec_items told.words)
+    ∙ explain_has_none c.args.number (lent c.args.line) (read_as c.read_line-read.result) (found told.finding) (option_map string_bytes told.words)

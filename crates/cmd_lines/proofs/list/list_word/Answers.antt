@@ -1,32 +1,24 @@
-use Rattle.std.proofs.Common.{rules, ◌≡◌, ◌++◌, ◌∷◌, [], ℕ, List, true, false, sym, ◌∙◌, ap, append_assoc, append-nil, refl}
-use Rattle.machine_text.specs.Text.{table_of, text_of}
-use Rattle.cmd_lines.specs.Listed.{alone, found_line}
-use Rattle.cmd_lines.proofs.Firsts.{lists_none, lists_double, lists_first, came_before, came_not}
+use Rattle.std.proofs.Common.{◌≡◌, ◌++◌, [], List, ℕ, Option, Some, sym, ◌∙◌, ap, append-nil, refl}
+use Rattle.std.specs.Borrow.{Bor}
+use Rattle.cmd_lines.specs.Words.{tables_of_column, tables_of_columns, tables_of_word}
+use Rattle.cmd_lines.specs.inside.Listing.{columns_left}
+use Rattle.cmd_lines.proofs.Firsts.{lists_for_nothing, lists_for_both, columns_more, grown}
 use Rattle.cmd_lines.proofs.list.list_word.Goals as goal
 
-pub returns-in_default-clause-ok : goal.returns-in_default-clause-ok
-returns-in_default-clause-ok c = (
-  [],
-  lists_none c.args.form.now.listing c.args.came.now.keys (table_of c.args.word.now) c.in_default.field-0 (sym c.parse.ensures ∙ c.in_default.is),
-  sym (append-nil c.args.said.now.items),
-)
+pub columns-init : goal.columns-init
+columns-init c = ([], [], lists_for_nothing c.args.form.now.listing c.args.came.now.keys, sym (append-nil c.args.said.now.items), refl)
 
-pub returns-then-not-branch-clause-ok : goal.returns-then-not-branch-clause-ok
-returns-then-not-branch-clause-ok c =
-    let first = c.in_ok-put_first.field-0 in
-    let none : first ≡ false = search rules in (
-      [],
-      lists_double c.args.form.now.listing c.args.came.now.keys c.put_first.new.came.keys (table_of c.args.word.now) c.in-Ok.t c.in_ok-t.t (sym c.parse.ensures ∙ c.in-Ok.is) (refl, c.in_ok-t.ensures)
-          (came_before c.args.came.now.keys c.in_ok-t.t first c.in_ok-put_first.ensures.ok.0 none) c.in_ok-put_first.ensures.ok.1,
-      sym (append-nil c.args.said.now.items),
-    )
-
-pub returns-clause-ok : goal.returns-clause-ok
-returns-clause-ok c =
-    let first = c.in_ok-put_first.field-0 in
-    let some : first ≡ true = search rules in (
-      found_line (alone c.in_ok-t.t),
-      lists_first c.args.form.now.listing c.args.came.now.keys c.put_first.new.came.keys (table_of c.args.word.now) c.in-Ok.t c.in_ok-t.t (sym c.parse.ensures ∙ c.in-Ok.is) (refl, c.in_ok-t.ensures)
-          (came_not c.args.came.now.keys c.in_ok-t.t first c.in_ok-put_first.ensures.ok.0 some) c.in_ok-put_first.ensures.ok.1,
-      c.in_ok-extend_from_slice.ensures.items ∙ (ap (λ (t : List ℕ). t ++ 10 ∷ []) c.in_ok-append_table.ensures.ok ∙ append_assoc c.args.said.now.items (text_of c.in_ok-t.t) (10 ∷ [])),
+-- one column more
+pub columns-preserved : goal.columns-preserved
+columns-preserved c =
+    let (done, more, lists, said, left) = c.columns.invariant in
+    let column = c.in_ok-list_column.ensures.ok in
+    let behind = c.columns.is_behind_row in
+    let here : tables_of_word c.args.word.now ≡ done ++ tables_of_columns behind (columns_left (Some c.in-Some.text)) =
+    left ∙ ap (λ (o : Option (Bor (List ℕ))). done ++ tables_of_columns behind (columns_left o)) c.in-Some.is in (
+      done ++ tables_of_column behind c.cut_column.result.0.now,
+      more ++ column.0,
+      lists_for_both c.args.form.now.listing c.args.came.now.keys done c.columns.came.keys (tables_of_column behind c.cut_column.result.0.now) c.list_column.new.came.keys more column.0 lists column.1,
+      grown c.args.said.now.items more c.columns.said.items column.0 c.list_column.new.said.items said column.2,
+      columns_more (tables_of_word c.args.word.now) done behind c.in-Some.text.now c.cut_column.result.0.now c.cut_column.result.1 here c.cut_column.ensures.columns,
     )

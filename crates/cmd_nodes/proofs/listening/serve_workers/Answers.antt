@@ -39,7 +39,7 @@ loop-preserved g c =
     }
 
 pub returns-then-is_over-clause-settled : goal.returns-then-is_over-clause-settled
-returns-then-is_over-clause-settled g c = subst IsSettled c.node.ensures (c.is_settled.ensures c.if-is_settled.true)
+returns-then-is_over-clause-settled g c = subst IsSettled c.node.ensures (c.is_settled.ensures.settled c.if-is_settled.true)
 
 pub returns-then-is_over-clause-listens : goal.returns-then-is_over-clause-listens
 returns-then-is_over-clause-listens g c = (served c.loop.node (g.L.LedgerOut.text c.loop.ledger) c.loop.peers, refl, refl, c.loop.invariant.listens)

@@ -1,14 +1,14 @@
 use Rattle.std.proofs.Common.{◌≡◌, ℕ, List, ◌∷◌, ◌++◌, ◌+◌, ◌<◌, suc, flat_map, slice_index, drop, length, sym, ap, ◌∙◌, append_assoc, arith}
 use Rattle.std.proofs.Math.Seq.{drop-cons}
 use Rattle.cmd_options.specs.Kinds.{kind_letters}
-use Rattle.cmd_page.specs.Page.{kind_html}
+use Rattle.cmd_page.specs.Counts.{kind_json}
 use Rattle.cmd_page.proofs.counts.append_kinds.Goals as goal
 
 pub loop-letter-preserved : goal.loop-letter-preserved
 loop-letter-preserved c =
     let k = c.loop-letter.letter-index in
     let letter = slice_index kind_letters k in
-    let row : ℕ → List ℕ = λ letter. kind_html c.args.total (slice_index c.args.kinds.now letter) letter in
+    let row : ℕ → List ℕ = λ letter. kind_json letter (slice_index c.args.kinds.now letter) in
     let rest = flat_map row (drop (k + 1) kind_letters) in
     let out = c.loop-letter.out.items in
     let within : k < length kind_letters = omega (arith, c.loop-letter-test.true) in

@@ -1,14 +1,19 @@
-use Rattle.std.proofs.Common.{◌≤◌, subst}
-use Rattle.machine_text.specs.Limits.{state_limit}
-use Rattle.machine_text.specs.Packed.{Packed}
-use Rattle.cmd_ledgers.proofs.Reports.{if_ok}
-use Rattle.cmd_page.specs.inside.{bytes_of_page}
-use Rattle.cmd_page.proofs.PageLaws.{counted_page}
+use Rattle.std.proofs.Common.{ℕ, List, ◌++◌, ap, ◌∙◌}
+use Rattle.cmd_page.specs.Counting.{census_numbers}
+use Rattle.cmd_page.specs.Counts.{counts_json}
+use Rattle.cmd_page.specs.Page.{page_html}
 use Rattle.cmd_page.proofs.making.page_of.Goals as goal
 
 pub returns : goal.returns
-returns c =
-    let board = c.args.board.now in
-    let tells = c.in_ok-of.ensures in
-    if_ok c.told_page.result (λ made so. counted_page c.args.heading.now board.root board.records c.args.left.now (bytes_of_page made) c.census_of.result c.census_of.ensures
-    (subst (λ (p : Packed). p.states ≤ state_limit) tells.root_is so.0) (so.1 board.root board.records tells)) c.told_page.ensures
+returns c = λ root rs tells.
+    let both = c.in_ok-told.ensures root rs tells in
+    let lines = c.in_ok-lines.lines.items in
+    let page : List ℕ → List ℕ → List ℕ = λ lines json. page_html c.args.heading.now lines json (counts_json (census_numbers c.args.census.now) c.args.left.now) in
+    record {
+      lines = lines;
+      json = c.in_ok-json.json.items;
+      are_lines = c.in_ok-lines.ensures root rs both.0;
+      is_json = c.in_ok-json.ensures root rs both.1;
+      is = c.in_ok-append_page.ensures ∙ (ap (λ (l : List ℕ). l ++ page c.deref.result.now c.deref-2.result.now) c.new-page.ensures.items
+          ∙ (ap (λ (l : List ℕ). page l c.deref-2.result.now) c.deref.ensures.value ∙ ap (page lines) c.deref-2.ensures.value));
+    }

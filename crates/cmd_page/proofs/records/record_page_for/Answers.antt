@@ -1,15 +1,15 @@
-use Rattle.std.proofs.Common.{ℕ, List, ◌++◌, subst, ◌∙◌}
+use Rattle.std.proofs.Common.{ℕ, List, ◌++◌, refl, subst, ◌∙◌}
 use Rattle.std.specs.Io.KnownBytes.{Appends}
 use Rattle.std.proofs.KnownBytes.{Appends-trans}
-use Rattle.cmd_lines.proofs.Answering.{stream_answered}
-use Rattle.cmd_page.specs.Records.{records_head_html, records_heading}
-use Rattle.cmd_page.specs.RecordRow.{SaysRow}
-use Rattle.cmd_page.specs.declared.script.TheConstants.{SCRIPT}
+use Rattle.cmd_json.proofs.Numbering.{stream_numbered}
+use Rattle.cmd_page.specs.Records.{SaysEmbedded, records_head_html, records_heading}
+use Rattle.cmd_page.specs.declared.records.Objects.{Objects}
+use Rattle.cmd_page.specs.declared.script.TheConstants.{RECORDS_SCRIPT}
 use Rattle.cmd_page.proofs.records.record_page_for.Goals as goal
 
 pub returns-clause-ok : goal.returns-clause-ok
 returns-clause-ok g c =
-    let so = stream_answered SaysRow _ _ _ _ _ _ _ c.in_ok-outcome.ensures.ok in
+    let so = stream_numbered (λ (d : Objects). d.lines) SaysEmbedded _ _ _ _ _ _ _ refl c.in_ok-outcome.ensures.ok in
     let h0 = g.W.Write.contents c.args.answers.now in
     let h1 = g.W.Write.contents c.write_all.new.self in
     let h2 = g.W.Write.contents c.say_lines.new.says in
@@ -19,10 +19,10 @@ returns-clause-ok g c =
     record {
       text = so.text;
       lines = so.lines;
-      rows = so.answers;
+      objects = so.answers;
       consumed = so.consumed;
       whole = so.whole;
       are_lines = so.are_lines;
       answered = so.answered;
-      written = Appends-trans h0 h2 h3 (head ++ so.answers) SCRIPT.now (Appends-trans h0 h1 h2 head so.answers begun so.written) c.in_ok-write_all-2.ensures.bytes;
+      written = Appends-trans h0 h2 h3 (head ++ so.answers) RECORDS_SCRIPT.now (Appends-trans h0 h1 h2 head so.answers begun so.written) c.in_ok-write_all-2.ensures.bytes;
     }

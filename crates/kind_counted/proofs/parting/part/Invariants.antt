@@ -1,8 +1,7 @@
-use Rattle.std.proofs.Common.{◌≡◌, ◌<◌, List, ◌∷◌}
+use Rattle.std.proofs.Common.{◌<◌, List, ◌∷◌}
 use Rattle.std.specs.Int.RustNames.{unsigned_abs}
 use Rattle.law_machines.specs.Cosets.{Point}
 use Rattle.kind_counted.specs.Numbers.{point_of}
-use Rattle.kind_counted.specs.Pass.{parted}
 use Rattle.kind_counted.specs.inside.Spans.{SameSums}
 use Rattle.kind_counted.proofs.parting.part.Given as goal
 
@@ -10,8 +9,6 @@ abbrev pub invariant-parting : goal.invariant-parting
 invariant-parting l = record {
   some : 0 < unsigned_abs (point_of l.carrier.numbers l.place);
   same : (rows : List Point) → SameSums (point_of l.fn.first.numbers ∷ (point_of l.fn.second.numbers ∷ rows)) (point_of l.carrier.numbers ∷ (point_of l.other.numbers ∷ rows));
-  rounds : parted l.place (unsigned_abs (point_of l.fn.second.numbers l.place)) (point_of l.fn.first.numbers) (point_of l.fn.second.numbers) ≡
-      parted l.place (unsigned_abs (point_of l.other.numbers l.place)) (point_of l.carrier.numbers) (point_of l.other.numbers);
 }
 
 abbrev pub decreases-parting : goal.decreases-parting

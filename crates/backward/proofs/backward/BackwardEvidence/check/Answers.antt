@@ -1,4 +1,4 @@
-use Rattle.std.proofs.Common.{refl, sym, ◌∙◌, arith, ◌≡◌, ◌<◌, length, get_or, rules}
+use Rattle.std.proofs.Common.{refl, sym, ◌∙◌, arith, ◌≡◌, ◌<◌, length, get_or, rules, inl}
 use Rattle.std.proofs.lemmas.Grind.{get_or_default_zero}
 use Rattle.backward.proofs.Checked.{done_is, done_not, counted_err, counted_ok, too_wide, not_too_wide, stands_if, none_if}
 use Rattle.backward.proofs.backward.BackwardEvidence.check.Goals as goal
@@ -12,7 +12,7 @@ returns-then-not-branch-clause-fails c is =
 pub returns-then-is_err-clause-wide : goal.returns-then-is_err-clause-wide
 returns-then-is_err-clause-wide c is =
     let run = done_is c.args.t.now c.args.self.now.depth c.in_ok-does_steps.field-0 c.in_ok-does_steps.ensures (search rules) in
-    (search rules, too_wide _ _ run (counted_err c.args.t.now c.args.self.now.depth c.in_ok-count.field-0 c.count.new.self.counts.items c.in_ok-count.ensures.counted (sym c.is_err.ensures.value ∙ c.if-is_err.true)))
+    (search rules, inl (too_wide _ _ run (counted_err c.args.t.now c.args.self.now.depth c.in_ok-count.field-0 c.count.new.self.counts.items c.in_ok-count.ensures.counted (sym c.is_err.ensures.value ∙ c.if-is_err.true))))
 
 pub returns-then-index-eq0-clause-ok : goal.returns-then-index-eq0-clause-ok
 returns-then-index-eq0-clause-ok c =

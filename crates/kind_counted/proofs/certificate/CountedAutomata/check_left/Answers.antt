@@ -1,14 +1,11 @@
-use Rattle.std.proofs.Common.{◌≡◌, ◌<◌, ℕ, List, true, false, sym, ◌∙◌, ap, subst, if◌then◌else◌}
+use Rattle.std.proofs.Common.{◌≡◌, List, true, false, sym, ◌∙◌, subst}
 use Rattle.law_machines.specs.Cosets.{Coset, IsMember}
-use Rattle.law_machines.specs.Counted.{CountedSystem, HasCoset, Settled, Negative, Members}
+use Rattle.law_machines.specs.Counted.{HasCoset, Settled, Negative, Members}
 use Rattle.kind_counted.specs.Items.{coset_of}
 use Rattle.kind_counted.specs.Certificate.{counted_of}
 use Rattle.kind_counted.specs.inside.Points.{coset_by, IsNegative, LiesWithin}
 use Rattle.kind_counted.specs.declared.item.Item.{Item}
-use Rattle.kind_counted.specs.inside.Judging.{IsItemAt, IsNoItem}
-use Rattle.kind_counted.specs.Pass.{◌>>=◌, passes, coset_at, all_inside, points_settle}
-use Rattle.kind_counted.specs.inside.Agreement.{Tells}
-use Rattle.kind_counted.proofs.PassItems.{negative_is, negative_not, coset_found, coset_missing}
+use Rattle.kind_counted.specs.inside.Judging.{IsItemAt}
 use Rattle.kind_counted.proofs.LeftLaws.{ok_then}
 use Rattle.kind_counted.proofs.JudgingLaws.{has_item, item_has, one_coset, settled_within}
 use Rattle.kind_counted.proofs.certificate.CountedAutomata.check_left.Goals as goal
@@ -47,40 +44,3 @@ returns-in-None-clause-fails c = λ e settled.
     let (k, has, within) = settled_within p (HasCoset (counted_of c.args.self.now) c.args.next) not settled in
     c.in-None.ensures.none.none has.is.0
     (subst (λ (l : List Item). IsItemAt l has.is.0 c.args.next) (sym c.deref.ensures.value) (has_item c.args.self.now.items.items c.args.next k has.is))
-
-pub returns-then-is_negative-clause-pass : goal.returns-then-is_negative-clause-pass
-unfolding points_settle
-returns-then-is_negative-clause-pass c =
-    let k : Coset = coset_by c.args.points.now.base c.args.points.now.rows.items in
-    let w : CountedSystem = counted_of c.args.self.now in
-    ap (λ b. if b then passes else (coset_at c.args.next w.items >>= all_inside k))
-    (negative_is c.args.points.now.base c.args.points.now.rows.items (c.is_negative.ensures.0 c.if-is_negative.true))
-
-pub returns-in-Some-clause-pass : goal.returns-in-Some-clause-pass
-unfolding points_settle
-returns-in-Some-clause-pass c =
-    let points = c.args.points.now in
-    let k : Coset = coset_by points.base points.rows.items in
-    let w : CountedSystem = counted_of c.args.self.now in
-    let items = c.args.self.now.items.items in
-    let item = c.index.result.now in
-    let at : IsItemAt items c.in-Some.i c.args.next = subst (λ (l : List Item). IsItemAt l c.in-Some.i c.args.next) c.deref.ensures.value c.in-Some.ensures.some in
-    let first : (j : ℕ) → j < c.in-Some.i → IsItemAt items j c.args.next → ⊥ =
-    subst (λ (l : List Item). (j : ℕ) → j < c.in-Some.i → IsItemAt l j c.args.next → ⊥) c.deref.ensures.value c.in-Some.ensures.first in
-    let not : IsNegative k → ⊥ = λ is. let t : true ≡ false = sym (c.is_negative.ensures.1 is) ∙ c.if-is_negative.false in absurd (cc) in
-    subst (λ a. Tells a c.check_within.result)
-    (sym (ap (λ b. if b then passes else (coset_at c.args.next w.items >>= all_inside k)) (negative_not points.base points.rows.items not) ∙
-    ap (λ a. a >>= all_inside k) (coset_found items c.in-Some.i item c.args.next c.index.ensures at first)))
-    c.check_within.ensures.pass
-
-pub returns-in-None-clause-pass : goal.returns-in-None-clause-pass
-unfolding points_settle
-returns-in-None-clause-pass c =
-    let points = c.args.points.now in
-    let k : Coset = coset_by points.base points.rows.items in
-    let w : CountedSystem = counted_of c.args.self.now in
-    let items = c.args.self.now.items.items in
-    let none : IsNoItem items c.args.next = subst (λ (l : List Item). IsNoItem l c.args.next) c.deref.ensures.value c.in-None.ensures.none in
-    let not : IsNegative k → ⊥ = λ is. let t : true ≡ false = sym (c.is_negative.ensures.1 is) ∙ c.if-is_negative.false in absurd (cc) in
-    ap (λ b. if b then passes else (coset_at c.args.next w.items >>= all_inside k)) (negative_not points.base points.rows.items not) ∙
-    ap (λ a. a >>= all_inside k) (coset_missing items c.args.next none)

@@ -1,11 +1,9 @@
-use Rattle.std.proofs.Common.{◌≡◌, ◌<◌, ℕ, List, sym, ap, subst}
+use Rattle.kind_counted.specs.Formed.{start_local}
+use Rattle.std.proofs.Common.{◌≡◌, List, sym, subst}
 use Rattle.kind_counted.specs.declared.item.Item.{Item}
 use Rattle.law_machines.specs.Cosets.{zeros, IsMember}
 use Rattle.kind_counted.specs.Items.{coset_of}
-use Rattle.kind_counted.specs.inside.Judging.{IsItemAt, IsNoItem}
-use Rattle.kind_counted.specs.Pass.{◌>>=◌, inside, start_local}
-use Rattle.kind_counted.specs.inside.Agreement.{Tells}
-use Rattle.kind_counted.proofs.PassItems.{coset_found, coset_missing}
+use Rattle.kind_counted.specs.inside.Judging.{IsItemAt}
 use Rattle.kind_counted.proofs.JudgingLaws.{has_item, one_coset}
 use Rattle.kind_counted.proofs.certificate.CountedAutomata.check_start.Goals as goal
 
@@ -22,20 +20,3 @@ pub returns-in-None-clause-fails : goal.returns-in-None-clause-fails
 returns-in-None-clause-fails c = λ e starts.
     c.in-None.ensures.none.none starts.has.is.0
     (subst (λ (l : List Item). IsItemAt l starts.has.is.0 start_local) (sym c.deref.ensures.value) (has_item c.args.self.now.items.items start_local starts.coset starts.has.is))
-
-pub returns-in-Some-clause-pass : goal.returns-in-Some-clause-pass
-returns-in-Some-clause-pass c =
-    let items = c.args.self.now.items.items in
-    let item = c.index.result.now in
-    let at : IsItemAt items c.in-Some.i start_local = subst (λ (l : List Item). IsItemAt l c.in-Some.i start_local) c.deref.ensures.value c.in-Some.ensures.some in
-    let first : (j : ℕ) → j < c.in-Some.i → IsItemAt items j start_local → ⊥ =
-    subst (λ (l : List Item). (j : ℕ) → j < c.in-Some.i → IsItemAt l j start_local → ⊥) c.deref.ensures.value c.in-Some.ensures.first in
-    subst (λ a. Tells a c.check_zeros.result)
-    (sym (ap (λ a. a >>= λ k. inside k.rows k.base) (coset_found items c.in-Some.i item start_local c.index.ensures at first)))
-    c.check_zeros.ensures.pass
-
-pub returns-in-None-clause-pass : goal.returns-in-None-clause-pass
-returns-in-None-clause-pass c =
-    let items = c.args.self.now.items.items in
-    let none : IsNoItem items start_local = subst (λ (l : List Item). IsNoItem l start_local) c.deref.ensures.value c.in-None.ensures.none in
-    ap (λ a. a >>= λ k. inside k.rows k.base) (coset_missing items start_local none)

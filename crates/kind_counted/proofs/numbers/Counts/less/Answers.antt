@@ -1,11 +1,7 @@
-use Rattle.std.proofs.Common.{◌≡◌, ◌<◌, ◌≤◌, false, sym, ◌-ℤ◌, ◌*ℤ◌, FitsSigned, w64, subst, arith}
+use Rattle.std.proofs.Common.{◌≡◌, ◌≤◌, ◌-ℤ◌, ◌*ℤ◌, FitsSigned, w64, subst, arith}
 use Rattle.std.specs.Int.RustNames.{unsigned_abs}
 use Rattle.std.proofs.lemmas.Int.{to_z-of_z, fits_signed_from_abs}
-use Rattle.std.specs.Prelude.{IfNone}
-use Rattle.law_machines.specs.Cosets.{Point, less}
-use Rattle.kind_counted.specs.Limits.{number_limit}
-use Rattle.kind_counted.specs.Pass.{is_small}
-use Rattle.kind_counted.proofs.PassLaws.{large_is}
+use Rattle.law_machines.specs.Cosets.{less}
 use Rattle.kind_counted.specs.Numbers.{point_of}
 use Rattle.kind_counted.proofs.PointLaws.{AreLess, small_fits, less_more, less_all}
 use Rattle.kind_counted.proofs.numbers.Counts.less.Goals as goal
@@ -22,20 +18,11 @@ loop-x-preserved c =
     let is : c.in_ok-numbers.field-0 ≡ point_of c.args.self.now.numbers c.loop-x.x -ℤ (c.args.f *ℤ point_of c.args.row.now.numbers c.loop-x.x) = simp to_z-of_z at c.in_ok-numbers.ensures.is in
     simp to_z-of_z (less_more c.args.self.now.numbers c.args.f c.args.row.now.numbers c.loop-x.x c.loop-x.numbers c.in_ok-numbers.field-0 before (omega arith) small is)
 
-pub returns-clause-less : goal.returns-clause-less
-returns-clause-less c =
+pub returns : goal.returns
+returns c =
     let end : c.loop-x.x ≡ 52 = omega arith in
-    less_all c.args.self.now.numbers c.args.f c.args.row.now.numbers c.loop-x.numbers c.args.self.now.small c.args.row.now.small
-    (subst (λ k. AreLess c.args.self.now.numbers c.args.f c.args.row.now.numbers k c.loop-x.numbers) end
-    (subst (λ g. AreLess c.args.self.now.numbers g c.args.row.now.numbers c.loop-x.x c.loop-x.numbers) (to_z-of_z w64 c.args.f c.ranges.f) c.loop-x.invariant))
-
-pub returns-in_err-numbers-clause-none : goal.returns-in_err-numbers-clause-none
-returns-in_err-numbers-clause-none c =
-    let f : FitsSigned w64 c.args.f = c.ranges.f in
-    let x = c.loop-x.x in
-    let v : Point = point_of c.args.self.now.numbers in
-    let row : Point = point_of c.args.row.now.numbers in
-    let one : FitsSigned w64 (v x) = small_fits c.args.self.now.numbers x c.args.self.now.small in
-    let two : FitsSigned w64 (row x) = small_fits c.args.row.now.numbers x c.args.row.now.small in
-    let large : number_limit < unsigned_abs (v x -ℤ (c.args.f *ℤ row x)) = simp to_z-of_z at c.in_err-numbers.ensures.large in
-    subst (λ o. IfNone o (is_small (less v c.args.f row) ≡ false)) (sym c.from_residual.ensures) (large_is (less v c.args.f row) x (omega arith) large)
+    record {
+      less = less_all c.args.self.now.numbers c.args.f c.args.row.now.numbers c.loop-x.numbers c.args.self.now.small c.args.row.now.small
+          (subst (λ k. AreLess c.args.self.now.numbers c.args.f c.args.row.now.numbers k c.loop-x.numbers) end
+          (subst (λ g. AreLess c.args.self.now.numbers g c.args.row.now.numbers c.loop-x.x c.loop-x.numbers) (to_z-of_z w64 c.args.f c.ranges.f) c.loop-x.invariant));
+    }

@@ -1,11 +1,9 @@
-use Rattle.std.proofs.Common.{◌≡◌, ◌<◌, ◌≤◌, false, ◌∙◌, ◌-ℤ◌, ◌*ℤ◌, FitsSigned, w64, sym, ap, subst, arith}
-use Rattle.std.specs.Int.RustNames.{unsigned_abs, int_div}
+use Rattle.std.proofs.Common.{◌≡◌, ◌<◌, ◌≤◌, ◌-ℤ◌, ◌*ℤ◌, FitsSigned, w64, sym, ap, subst, arith}
+use Rattle.std.specs.Int.RustNames.{unsigned_abs}
 use Rattle.std.proofs.lemmas.Int.{to_z-of_z, fits_signed_from_abs}
 use Rattle.law_machines.specs.Cosets.{Point, less}
 use Rattle.kind_counted.specs.Numbers.{point_of}
-use Rattle.kind_counted.specs.Pass.{is_small}
 use Rattle.kind_counted.proofs.PointLaws.{small_fits}
-use Rattle.kind_counted.proofs.PassLaws.{sized_ok, sized_not}
 use Rattle.kind_counted.proofs.numbers.Counts.lessened.Goals as goal
 
 pub returns-in-Some-clause-lessened : goal.returns-in-Some-clause-lessened
@@ -22,29 +20,3 @@ returns-in-Some-clause-lessened c =
       is = is;
       small = subst (λ n. unsigned_abs n < unsigned_abs (point_of c.args.row.now.numbers c.args.place)) (sym (ap (λ (v : Point). v c.args.place) is)) rest;
     }
-
-pub returns-in-Some-clause-pass : goal.returns-in-Some-clause-pass
-returns-in-Some-clause-pass c =
-    let x = c.args.place in
-    let v : Point = point_of c.args.self.now.numbers in
-    let row : Point = point_of c.args.row.now.numbers in
-    let one : FitsSigned w64 (v x) = small_fits c.args.self.now.numbers x c.args.self.now.small in
-    let two : FitsSigned w64 (row x) = small_fits c.args.row.now.numbers x c.args.row.now.small in
-    let small : unsigned_abs c.rounded.result ≤ 2147483648 = c.rounded.ensures.small in
-    let q : FitsSigned w64 c.rounded.result = fits_signed_from_abs w64 c.rounded.result (omega arith) in
-    let times : c.rounded.result ≡ int_div (v x) (row x) = simp to_z-of_z at c.rounded.ensures.is in
-    let rest : point_of c.in-Some.rest.numbers ≡ less v c.rounded.result row = simp to_z-of_z at c.in-Some.ensures.less in
-    sized_ok (less v (int_div (v x) (row x)) row) c.in-Some.rest.numbers c.in-Some.rest.small (rest ∙ ap (λ q. less v q row) times)
-
-pub returns-in-None-clause-pass : goal.returns-in-None-clause-pass
-returns-in-None-clause-pass c =
-    let x = c.args.place in
-    let v : Point = point_of c.args.self.now.numbers in
-    let row : Point = point_of c.args.row.now.numbers in
-    let one : FitsSigned w64 (v x) = small_fits c.args.self.now.numbers x c.args.self.now.small in
-    let two : FitsSigned w64 (row x) = small_fits c.args.row.now.numbers x c.args.row.now.small in
-    let small : unsigned_abs c.rounded.result ≤ 2147483648 = c.rounded.ensures.small in
-    let q : FitsSigned w64 c.rounded.result = fits_signed_from_abs w64 c.rounded.result (omega arith) in
-    let times : c.rounded.result ≡ int_div (v x) (row x) = simp to_z-of_z at c.rounded.ensures.is in
-    let large : is_small (less v c.rounded.result row) ≡ false = simp to_z-of_z at c.in-None.ensures.none in
-    sized_not (less v (int_div (v x) (row x)) row) (subst (λ q. is_small (less v q row) ≡ false) times large)

@@ -1,5 +1,4 @@
-use Rattle.std.proofs.Common.{◌≡◌, take, drop}
-use Rattle.kind_counted.specs.Pass.{each, inside}
+use Rattle.std.proofs.Common.{take}
 use Rattle.kind_counted.specs.Pivots.{points}
 use Rattle.kind_counted.specs.inside.Spans.{listed}
 use Rattle.kind_counted.specs.inside.Points.{AreSumsOf}
@@ -8,5 +7,4 @@ use Rattle.kind_counted.proofs.points.Points.check_rows.Given as goal
 abbrev pub invariant-loop-row : goal.invariant-loop-row
 invariant-loop-row l = record {
   sums : AreSumsOf (points l.k.rows.items) (listed (take l.row-index l.self.rows.items));
-  pass : each (inside (points l.k.rows.items)) (listed l.self.rows.items) ≡ each (inside (points l.k.rows.items)) (drop l.row-index (listed l.self.rows.items));
 }

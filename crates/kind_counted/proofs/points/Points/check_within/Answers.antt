@@ -1,12 +1,7 @@
-use Rattle.std.proofs.Common.{◌≡◌, ◌-ℤ◌, List, Ok, Err, sym, ◌∙◌, ap, subst}
+use Rattle.std.proofs.Common.{◌-ℤ◌, List, sym, subst}
 use Rattle.std.proofs.lemmas.Result.{err_from_is_err_and}
 use Rattle.kind_counted.specs.declared.rows.Row.{Row}
-use Rattle.law_machines.specs.Cosets.{Point, Coset, IsSum}
-use Rattle.kind_counted.specs.declared.numbers.Counts.{Counts}
-use Rattle.kind_counted.specs.Pass.{◌>>=◌, each, sized, inside, all_inside}
-use Rattle.kind_counted.specs.inside.Agreement.{Tells}
-use Rattle.kind_counted.proofs.PassLaws.{refused_as}
-use Rattle.kind_counted.proofs.PassRows.{apart_by}
+use Rattle.law_machines.specs.Cosets.{Coset, IsSum}
 use Rattle.kind_counted.specs.Items.{coset_of}
 use Rattle.kind_counted.specs.Numbers.{point_of}
 use Rattle.kind_counted.specs.Pivots.{points}
@@ -37,30 +32,3 @@ returns-clause-within c =
 pub returns-clause-fails : goal.returns-clause-fails
 returns-clause-fails c = λ e within.
     c.check_rows.ensures.fails e (within_rows (coset_by c.args.self.now.base c.args.self.now.rows.items) (coset_of c.args.k.now) within)
-
-pub returns-in_err-apart-clause-pass : goal.returns-in_err-apart-clause-pass
-returns-in_err-apart-clause-pass c =
-    let k : Coset = coset_by c.args.self.now.base c.args.self.now.rows.items in
-    let other : Coset = coset_of c.args.k.now in
-    refused_as (λ (v : Counts). point_of v.numbers) (λ u. u) (sized (λ x. k.base x -ℤ other.base x)) (all_inside k other) c.in_err-apart.field-0.0 c.from_residual.result
-    c.from_residual.ensures.1 (λ r is. apart_by k other (Err r) is) c.in_err-apart.ensures.pass
-
-pub returns-in_err-sum_to-clause-pass : goal.returns-in_err-sum_to-clause-pass
-returns-in_err-sum_to-clause-pass c =
-    let k : Coset = coset_by c.args.self.now.base c.args.self.now.rows.items in
-    let other : Coset = coset_of c.args.k.now in
-    let apart : Point = point_of c.in_ok-apart.apart.numbers in
-    refused_as (λ u. u) (λ u. u) (inside other.rows apart) (all_inside k other) c.in_err-sum_to.field-0.0 c.from_residual-in_err-sum_to.result
-    c.from_residual-in_err-sum_to.ensures.1
-    (λ r is. apart_by k other (Ok apart) c.in_ok-apart.ensures.pass ∙ ap (λ a. a >>= λ _. each (inside other.rows) k.rows) is)
-    (subst (λ (l : List Row). Tells (inside (points l) apart) (Err c.in_err-sum_to.field-0.0)) c.deref.ensures.value c.in_err-sum_to.ensures.pass)
-
-pub returns-clause-pass : goal.returns-clause-pass
-returns-clause-pass c =
-    let k : Coset = coset_by c.args.self.now.base c.args.self.now.rows.items in
-    let other : Coset = coset_of c.args.k.now in
-    let apart : Point = point_of c.in_ok-apart.apart.numbers in
-    subst (λ a. Tells a c.check_rows.result)
-    (sym (apart_by k other (Ok apart) c.in_ok-apart.ensures.pass ∙ ap (λ a. a >>= λ _. each (inside other.rows) k.rows)
-    (subst (λ (l : List Row). inside (points l) apart ≡ Ok tt) c.deref.ensures.value c.in_ok-sum_to.ensures.pass)))
-    c.check_rows.ensures.pass

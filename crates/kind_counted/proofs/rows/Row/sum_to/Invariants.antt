@@ -1,12 +1,8 @@
-use Rattle.std.proofs.Common.{◌≡◌, drop}
 use Rattle.kind_counted.specs.Numbers.{point_of}
-use Rattle.kind_counted.specs.Pass.{taken_off}
-use Rattle.kind_counted.specs.Pivots.{points}
 use Rattle.kind_counted.specs.inside.Rows.{IsReduced}
 use Rattle.kind_counted.proofs.rows.Row.sum_to.Given as goal
 
 abbrev pub invariant-loop-row : goal.invariant-loop-row
 invariant-loop-row l = record {
   reduced : IsReduced l.rows (point_of l.counts.numbers) l.row-index (point_of l.rest.numbers);
-  pass : taken_off (points l.rows) (point_of l.counts.numbers) ≡ taken_off (drop l.row-index (points l.rows)) (point_of l.rest.numbers);
 }

@@ -38,6 +38,7 @@ unreachable-requires c =
     never_refused_here c.args.self.now.root c.args.other.now c.args.self.now.records c.loop-r.r-iterator c.next.new.self c.loop-r.self.records c.offer_certified.new.self.records (recorded c.in-Some.r) c.in-Err.fault
     c.child_is_table.ensures.below c.child_is_table.ensures.tree mine c.root-2.ensures.board same c.loop-r.invariant.so_far c.in-Some.ensures.steps c.in_default-fault.not-NoMemory
     (subst (λ (p : Packed). OfferGives p c.loop-r.self.records (recorded c.in-Some.r) (Err c.in-Err.fault) c.offer_certified.new.self.records) c.loop-r.invariant.root c.in-Err.ensures.gives)
+    c.in-Err.ensures.stands
 
 pub returns-in-NoMemory-clause-gives : goal.returns-in-NoMemory-clause-gives
 unfolding same_table

@@ -1,4 +1,0 @@
-use Rattle.cmd_dispatch.proofs.nodes.coord.Goals as goal
-
-pub returns-in-Some : goal.returns-in-Some
-returns-in-Some g c = rw c.in-Some.is c.coord_kept.ensures

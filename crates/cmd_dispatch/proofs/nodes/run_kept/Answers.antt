@@ -1,7 +1,0 @@
-use Rattle.std.proofs.Common.{rules}
-use Rattle.cmd_dispatch.proofs.Running.{ran_kept}
-use Rattle.cmd_dispatch.proofs.nodes.run_kept.Goals as goal
-
-pub returns : goal.returns
-returns g c =
-    ran_kept _ _ _ (g.H.Files.tells_same c.at.new.files) _ (g.H.Files.holds c.at.new.files) _ c.args.file _ _ _ _ _ _ _ c.run_over-outcome.ensures c.in_ok-held.ensures.tells c.close.ensures.put (search rules)

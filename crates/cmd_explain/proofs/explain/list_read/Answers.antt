@@ -1,4 +1,0 @@
-use Rattle.cmd_explain.proofs.explain.list_read.Goals as goal
-
-pub returns-in-Ok : goal.returns-in-Ok
-returns-in-Ok c = rw c.in-Ok.is c.list_record.ensures

@@ -52,10 +52,14 @@ function expect(holds, what) {
 }
 
 // Waits until an expression holds in the page.
-async function until(what, expression, seconds = 60) {
+async function until(what, expression, seconds = 300) {
   const end = Date.now() + 1000 * seconds;
-  while (Date.now() < end && !(await evaluate(expression))) await pause(100);
-  expect(await evaluate(expression), what);
+  let holds = await evaluate(expression);
+  while (!holds && Date.now() < end) {
+    await pause(100);
+    holds = await evaluate(expression);
+  }
+  expect(holds, what);
 }
 
 async function shoot(name) {
@@ -139,8 +143,10 @@ async function drops() {
 // A record of each kind, right and changed in one place; many records; what is no list; what is markup elsewhere.
 async function amounts() {
   const say = "document.getElementById('said').textContent", file = join(folder, 'records');
+  // What the page said of the last one goes first, since it may be what is waited for.
   const drop = async text => {
     writeFileSync(file, text);
+    await evaluate(`${say} = ''`);
     const data = {items: [], files: [file], dragOperationsMask: 1};
     for (const type of ['dragEnter', 'dragOver', 'drop']) await send('Input.dispatchDragEvent', {type, x: 200, y: 200, data});
   };
@@ -150,21 +156,21 @@ async function amounts() {
   const kinds = [...new Map([rule, ...others, ...held].map(line => [line.split(' ')[1], line])).entries()].filter(([kind]) => /^[A-Z]$/.test(kind) && kind !== 'U');
   await open();
   await drop(kinds.map(([, line]) => line).join('\n'));
-  await until(`a record of each of ${kinds.map(([kind]) => kind).join('')}`, `${say}.includes('never ${kinds.length - 1}') && ${say}.includes('halts 1') && !${say}.includes('refused')`, 300);
+  await until(`a record of each of ${kinds.map(([kind]) => kind).join('')}`, `${say}.includes('never ${kinds.length - 1}') && ${say}.includes('halts 1') && !${say}.includes('refused')`);
   await drop(kinds.map(([, line]) => line.replace(/.$/, last => last === '1' ? '2' : '1')).join('\n'));
-  await until('the same with another last letter', `${say}.includes('refused') && !${say}.includes('never ${kinds.length - 1}')`, 300);
+  await until('the same with another last letter', `${say}.includes('refused') && !${say}.includes('never ${kinds.length - 1}')`);
   await drop(held.filter(line => / [CT] /.test(line)).slice(0, 10000).join('\n'));
-  await until('10,000 records', `${say} === 'never 10,000'`, 300);
+  await until('10,000 records', `${say} === 'never 10,000'`);
   await drop(readFileSync(EXAMPLES + 'three-states.ledger'));
-  await until('the ledger of three states', `${shown}.includes('So S(3) = 21 and Σ(3) = 6')`, 300);
+  await until('the ledger of three states', `${shown}.includes('So S(3) = 21 and Σ(3) = 6')`);
   await drop('it is no list\n'.repeat(750000));
-  await until('ten megabytes that are no list', `/without a table/.test(${say})`, 300);
+  await until('ten megabytes that are no list', `/without a table/.test(${say})`);
   for (const bytes of [49152, 49153]) {
     await drop('1RB1LB_1LA--- N 3 ' + '0'.repeat(bytes - 18));
     await until(`a record of ${bytes} bytes`, `${say}.startsWith('refused')`);
   }
   await drop('<img src=x onerror="window.hit=1"> 1RA--- T 0 1 R<script>window.hit=1</script>\n1RA--- T 0 1 R');
-  await until('what is markup elsewhere', `${shown}.includes('1RA---') && !window.hit && !document.querySelector('#results img, #results script')`, 60);
+  await until('what is markup elsewhere', `${shown}.includes('1RA---') && !window.hit && !document.querySelector('#results img, #results script')`);
 }
 
 async function byKeyboard() {

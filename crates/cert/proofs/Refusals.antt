@@ -19,17 +19,6 @@ refused_or_certified TooWide r refused certified = elim refused.1 [ inl wide ↦
 refused_or_certified NotSeen r refused certified = absurd refused
 refused_or_certified NoMemory r refused certified = absurd refused
 
--- a refusal that isn't for want of memory, nor unseen, makes a record unfit
-unfit_by : (f : Refused) (r : Recorded) → f ≢ NotSeen → f ≢ NoMemory → IsRefusedBy f r → IsUnfitBy f r
-unfit_by Fails r seen memory refused = refused
-unfit_by TooLong r seen memory refused = refused
-unfit_by TooWide r seen memory refused = refused
-unfit_by NotSeen r seen memory refused = absurd (seen refl)
-unfit_by NoMemory r seen memory refused = absurd (memory refl)
-
-pub refused_otherwise : (f : Refused) (r : Recorded) → f ≢ NotSeen → f ≢ NoMemory → IsRefusedBy f r → IsCertified r → MayOverflow r.claim r.table
-refused_otherwise f r seen memory refused = refused_or_certified f r (unfit_by f r seen memory refused)
-
 -- a halting table's record is certified, or refused, as its check says
 pub halts_certified : (r : Record) (e : HaltsIn) → r.certificate ≡ Halts e → e.steps ≤ halt_step_limit → HaltsAsClaimed e r.table → IsCertified (recorded r)
 halts_certified r e is within stands = rw is (record { within = within; narrow = λ wide. wide; stands = stands })

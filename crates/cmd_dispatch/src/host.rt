@@ -2,22 +2,22 @@
 use cert::{Decider, Finders};
 use cmd_nodes::{Network, Sockets};
 use cmd_options::Options;
-use files::{Disk, Files};
+use files::Files;
 use find_search::{AnyFinder, KnownFile, SavingDecider};
 use lease_core::Worker;
 use std::alloc::Global;
 use std::io::{Read, Write};
 use std::time::Clock;
-use system::{ProgressTold, Telling, TimedProgress, Work};
+use system::{ProgressTold, Saying, Storage, Telling, TimedProgress, Work};
 use wire::Node;
 
 // Records that were found elsewhere, if any are asked for.
 pub(crate) type KnownRecords<'a> = Option<&'a KnownFile<'a>>;
 
-/// What a command meets beside files and streams: a clock, sockets and a terminal.
-pub trait Environment: Disk + Clock + Sockets + Network + ProgressTold {}
+/// What a command meets beside its streams: files, a clock, sockets and a terminal.
+pub trait Environment: Storage + Saying + Clock + Sockets + Network + ProgressTold {}
 
-impl<S: Disk + Clock + Sockets + Network + ProgressTold> Environment for S {}
+impl<S: Storage + Saying + Clock + Sockets + Network + ProgressTold> Environment for S {}
 
 /// What a command meets.
 #[derive(Drop)]

@@ -15,15 +15,15 @@ use crate::sourced::obeyed_by_source;
 use cmd_options::{Ended, NoMemory, Outcome};
 use cmd_parts::trunk_path;
 use cmd_words::{CommandLine, LineFault, Source as LinesFrom, command_line};
-use files::{Disk, OnDisk};
+use files::Files;
 use std::alloc::Global;
 use std::io::{Read, Write};
-use system::{Oddity, ProgressTold, Saying};
+use system::{Oddity, ProgressTold, Saying, Storage};
 
 /// Does what the words ask for, the program's name first, and answers how it ended. Each end is an
 /// `Outcome`: a line that can't be read or is refused too, and a stream that fails. Behind the version stands of which sources
 /// the program is.
-pub fn obey<S: Environment + Saying, R: Read, W: Write, E: Write>(
+pub fn obey<S: Environment, R: Read, W: Write, E: Write>(
     alloc: Global,
     words: Result<Vec<String>, LineFault>,
     sources: &str,
@@ -57,7 +57,7 @@ pub fn obey<S: Environment + Saying, R: Read, W: Write, E: Write>(
 }
 
 // What a line is answered that asks for nothing: help, the version, or what is wrong with it.
-fn unread<S: Disk + ProgressTold, W: Write, E: Write>(
+fn unread<S: Saying + ProgressTold, W: Write, E: Write>(
     alloc: Global,
     fault: LineFault,
     sources: &str,
@@ -95,7 +95,7 @@ fn version_told<W: Write, E: Write>(
 }
 
 // Does what a line asks for, over this input, and says what there is to say of how it ended.
-pub(crate) fn obeyed<S: Environment + Saying, R: Read, W: Write, E: Write>(
+pub(crate) fn obeyed<S: Environment, R: Read, W: Write, E: Write>(
     alloc: Global,
     line: &CommandLine<'_>,
     system: &S,
@@ -115,7 +115,7 @@ pub(crate) fn obeyed<S: Environment + Saying, R: Read, W: Write, E: Write>(
     if !heard.has_no_lines() {
         tell_reason(system, outcome, &shared);
     }
-    tell_refused(alloc, line, system, heard.beginning(), &shared);
+    tell_refused(alloc, line, &system.files(), heard.beginning(), &shared);
     let oddity = heard.oddity();
     tell_oddities(alloc, line, system, outcome, oddity, &shared);
     outcome
@@ -159,7 +159,7 @@ fn carried_out<S: Environment, R: Read, W: Write, E: Write>(
     let mut host = Host {
         alloc,
         system,
-        files: OnDisk::of(alloc, system),
+        files: system.files(),
         input: Named::of(system, name, input),
         answers: Named::of(system, "standard output", answers),
         faults: Named::of(system, "standard error", faults),
@@ -168,7 +168,7 @@ fn carried_out<S: Environment, R: Read, W: Write, E: Write>(
 }
 
 // Where a command failed, says what of it failed, and why.
-pub(crate) fn tell_reason<S: Disk, E: Write>(system: &S, outcome: Outcome, faults: &Shared<'_, E>) {
+pub(crate) fn tell_reason<S: Saying, E: Write>(system: &S, outcome: Outcome, faults: &Shared<'_, E>) {
     if outcome == Outcome::Failed
         && let Some(reason) = system.reason()
     {
@@ -177,23 +177,23 @@ pub(crate) fn tell_reason<S: Disk, E: Write>(system: &S, outcome: Outcome, fault
 }
 
 // Where a ledger or a root was refused, says why.
-fn tell_refused<S: Disk, E: Write>(
+fn tell_refused<H: Files, E: Write>(
     alloc: Global,
     line: &CommandLine<'_>,
-    system: &S,
+    files: &H,
     of_input: &[u8],
     faults: &Shared<'_, E>,
 ) {
     // What can't be said for want of memory isn't.
     if faults.has_refused()
-        && let Ok(Some(reason)) = reason_of(alloc, system, &line.asked, of_input)
+        && let Ok(Some(reason)) = reason_of(alloc, files, &line.asked, of_input)
     {
         faults.say(&reason);
     }
 }
 
 // Where a command failed or refused something, says what was odd of what it read, and which command to give in its place.
-fn tell_oddities<S: Disk + Saying, E: Write>(
+fn tell_oddities<S: Storage + Saying, E: Write>(
     alloc: Global,
     line: &CommandLine<'_>,
     system: &S,
@@ -224,7 +224,7 @@ fn tell_oddities<S: Disk + Saying, E: Write>(
     }
 }
 
-fn tell<S: Disk, E: Write>(
+fn tell<S: Storage, E: Write>(
     alloc: Global,
     line: &CommandLine<'_>,
     system: &S,
@@ -236,7 +236,7 @@ fn tell<S: Disk, E: Write>(
         return;
     }
     let has_parts = match place {
-        Place::File(path) => has_trunk(alloc, system, path),
+        Place::File(path) => has_trunk(alloc, &system.files(), path),
         Place::Input => false,
     };
     // What can't be said for want of memory isn't.
@@ -246,9 +246,10 @@ fn tell<S: Disk, E: Write>(
 }
 
 // Whether a trunk is in the folder at a path.
-fn has_trunk<S: Disk>(alloc: Global, system: &S, path: &str) -> bool {
+fn has_trunk<H: Files>(alloc: Global, files: &H, path: &str) -> bool {
     match trunk_path(alloc, path) {
-        Ok(trunk) => system.is_taken(&trunk),
+        // What isn't there is no file, and so not the same as itself.
+        Ok(trunk) => files.is_same(&trunk, &trunk),
         Err(_) => false,
     }
 }

@@ -4,7 +4,7 @@ ghost use Rattle.std.specs.Prelude.{◌≤◌, IfOk};
 
 use cmd_options::{NoMemory, Options};
 use cmd_parts::trunk_path;
-use files::Disk;
+use files::Files;
 use ledger::{LoadFault, peek_root};
 use machine_text::{TEXT_BYTES, Table};
 use std::alloc::Global;
@@ -28,27 +28,27 @@ const NUMBERS: [&str; 8] = [
 
 /// What is said of it; nothing where nothing was wrong with how ledgers and roots begin. `of_input` are the first bytes of standard
 /// input.
-pub(crate) fn reason_of<D: Disk>(
+pub(crate) fn reason_of<H: Files>(
     alloc: Global,
-    disk: &D,
+    files: &H,
     asked: &Options<'_>,
     of_input: &[u8],
 ) -> Result<Option<String>, NoMemory> {
     match asked {
-        Options::Report(reporting) => of_read(alloc, disk, reporting.file, of_input),
-        Options::Mend(mending) => of_read(alloc, disk, mending.ledger, of_input),
-        Options::Page(paging) => of_read(alloc, disk, paging.ledger.unwrap_or_default(), of_input),
-        Options::Look(looking) => of_read(alloc, disk, looking.path, of_input),
-        Options::Retry(retrying) => of_ledger(alloc, disk, retrying.file.path, None),
-        Options::Settle(settling) => of_ledger(alloc, disk, settling.file.path, None),
-        Options::CoordPart(coordinating) => of_ledger(alloc, disk, coordinating.file.path, None),
-        Options::Carry(carrying) => of_ledger(alloc, disk, carrying.ledger, None),
-        Options::Merge(merging) => of_two(alloc, disk, merging.first, merging.second),
+        Options::Report(reporting) => of_read(alloc, files, reporting.file, of_input),
+        Options::Mend(mending) => of_read(alloc, files, mending.ledger, of_input),
+        Options::Page(paging) => of_read(alloc, files, paging.ledger.unwrap_or_default(), of_input),
+        Options::Look(looking) => of_read(alloc, files, looking.path, of_input),
+        Options::Retry(retrying) => of_ledger(alloc, files, retrying.file.path, None),
+        Options::Settle(settling) => of_ledger(alloc, files, settling.file.path, None),
+        Options::CoordPart(coordinating) => of_ledger(alloc, files, coordinating.file.path, None),
+        Options::Carry(carrying) => of_ledger(alloc, files, carrying.ledger, None),
+        Options::Merge(merging) => of_two(alloc, files, merging.first, merging.second),
         Options::Coord {
             beginning,
             ledger: Some(file),
             ..
-        } => of_ledger(alloc, disk, file.path, Some(beginning.states)),
+        } => of_ledger(alloc, files, file.path, Some(beginning.states)),
         Options::Run {
             settling,
             ledger: Some(file),
@@ -56,10 +56,10 @@ pub(crate) fn reason_of<D: Disk>(
         | Options::Loop {
             settling,
             ledger: Some(file),
-        } => of_ledger(alloc, disk, file.path, Some(settling.states)),
+        } => of_ledger(alloc, files, file.path, Some(settling.states)),
         Options::Split(splitting) => {
             let trunk = trunk_path(alloc, splitting.folder)?;
-            of_ledger(alloc, disk, &trunk, Some(splitting.states))
+            of_ledger(alloc, files, &trunk, Some(splitting.states))
         }
         Options::Walk(walking) => match walking.root {
             Some(text) => of_root(alloc, text, walking.states),
@@ -80,9 +80,9 @@ pub(crate) fn reason_of<D: Disk>(
 }
 
 // Of a ledger that is only read, which may be standard input.
-fn of_read<D: Disk>(
+fn of_read<H: Files>(
     alloc: Global,
-    disk: &D,
+    files: &H,
     path: &str,
     of_input: &[u8],
 ) -> Result<Option<String>, NoMemory> {
@@ -90,17 +90,17 @@ fn of_read<D: Disk>(
         let (_, said) = of_bytes(alloc, "standard input", of_input)?;
         return Ok(said);
     }
-    of_ledger(alloc, disk, path, None)
+    of_ledger(alloc, files, path, None)
 }
 
 // Of the ledger at a path, which may have to be that of the tree of so many states.
-fn of_ledger<D: Disk>(
+fn of_ledger<H: Files>(
     alloc: Global,
-    disk: &D,
+    files: &H,
     path: &str,
     states: Option<u8>,
 ) -> Result<Option<String>, NoMemory> {
-    let (found, said) = of_path(alloc, disk, path)?;
+    let (found, said) = of_path(alloc, files, path)?;
     let (Some(found), Some(states)) = (found, states) else {
         return Ok(said);
     };
@@ -120,17 +120,17 @@ fn of_ledger<D: Disk>(
 }
 
 // Of two ledgers, which have to be of one tree.
-fn of_two<D: Disk>(
+fn of_two<H: Files>(
     alloc: Global,
-    disk: &D,
+    files: &H,
     first: &str,
     second: &str,
 ) -> Result<Option<String>, NoMemory> {
-    let (one, said) = of_path(alloc, disk, first)?;
+    let (one, said) = of_path(alloc, files, first)?;
     if said.is_some() {
         return Ok(said);
     }
-    let (other, said) = of_path(alloc, disk, second)?;
+    let (other, said) = of_path(alloc, files, second)?;
     let (Some(one), Some(other)) = (one, other) else {
         return Ok(said);
     };
@@ -157,19 +157,19 @@ fn of_root(alloc: Global, text: &str, states: u8) -> Result<Option<String>, NoMe
 }
 
 // The root of the ledger at a path, or what is wrong with how it begins.
-fn of_path<D: Disk>(
+fn of_path<H: Files>(
     alloc: Global,
-    disk: &D,
+    files: &H,
     path: &str,
 ) -> Result<(Option<Table>, Option<String>), NoMemory> {
-    if disk.is_folder(path) {
+    if files.is_folder(path) {
         return Ok((None, None));
     }
-    let Ok(mut file) = disk.open(path) else {
+    let Ok(mut file) = files.open_to_end(path) else {
         return Ok((None, None));
     };
     let mut buffer = [0; BEGINNING];
-    let Ok(count) = fill(&mut file, &mut buffer) else {
+    let Ok(count) = fill(&mut file.reader, &mut buffer) else {
         return Ok((None, None));
     };
     of_bytes(alloc, path, &buffer[..count])

@@ -7,12 +7,12 @@ use crate::obeying::{obeyed, tell_reason};
 use crate::shared::Shared;
 use cmd_options::{Ended, NoMemory, Outcome, ended_by};
 use cmd_words::{CommandLine, Source};
+use files::Files;
 use std::alloc::Global;
 use std::io::{Read, Write};
-use system::Saying;
 
 // Does what a line asks for, over its lines.
-pub(crate) fn obeyed_by_source<S: Environment + Saying, R: Read, W: Write, E: Write>(
+pub(crate) fn obeyed_by_source<S: Environment, R: Read, W: Write, E: Write>(
     alloc: Global,
     line: &CommandLine<'_>,
     system: &S,
@@ -38,7 +38,7 @@ pub(crate) fn obeyed_by_source<S: Environment + Saying, R: Read, W: Write, E: Wr
 }
 
 // Over the lines of a file, which has to be there.
-fn obeyed_in_file<S: Environment + Saying, W: Write, E: Write>(
+fn obeyed_in_file<S: Environment, W: Write, E: Write>(
     alloc: Global,
     line: &CommandLine<'_>,
     path: &str,
@@ -48,8 +48,8 @@ fn obeyed_in_file<S: Environment + Saying, W: Write, E: Write>(
 ) -> Outcome
     requires { AreWithinRanges line.now.asked }
 {
-    match system.open(path) {
-        Ok(mut file) => obeyed(alloc, line, system, &mut file, answers, faults),
+    match system.files().open_to_end(path) {
+        Ok(mut file) => obeyed(alloc, line, system, &mut file.reader, answers, faults),
         Err(fault) => {
             let outcome = ended_by(&fault, Ended::File).told(faults);
             tell_reason(system, outcome, &Shared::of(faults));

@@ -21,7 +21,8 @@ pub struct FarFinder {
 }
 
 impl FarFinder {
-    /// A finder that tries first automata of up to so many states, and of no more than `MAX_SIZE`.
+    /// A finder that tries first automata of up to so many states; how large they may be at most, its search sees to, and no
+    /// contract says.
     pub fn new(alloc: Global, size: u64) -> FarFinder
         ensures { result.size ≡ size }
     {

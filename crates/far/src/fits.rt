@@ -159,7 +159,7 @@ impl Unpacked {
 }
 
 // The number of a symbol.
-fn symbol_number(s: Sym) -> usize
+pub(crate) fn symbol_number(s: Sym) -> usize
     ensures number { result ≡ symbol_number s }
     ensures limit { result ≤ 1 }
 {
@@ -167,7 +167,7 @@ fn symbol_number(s: Sym) -> usize
 }
 
 // Whether a move is ahead.
-fn is_ahead(dir: Dir, side: Dir) -> bool
+pub(crate) fn is_ahead(dir: Dir, side: Dir) -> bool
     ensures { IsTrue result ↔ (dir ≡ side) }
 {
     match (dir, side) {

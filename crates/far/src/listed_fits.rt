@@ -6,11 +6,12 @@ ghost use Rattle.far.specs.Limits.{listed_pair_limit};
 ghost use Rattle.far.specs.inside.ListedSteps.{LeadsInto, LeadInto, GoesAhead, PairFits, EachPairFits, all_moves, BackOver, GoesBack, FitsBack, EachFitsBack, AreSeen, BlankIsKept};
 ghost use Rattle.far.specs.inside.ListedUnpacked.{numbers_of_unpacked};
 
+use crate::fits::{is_ahead, symbol_number};
 use crate::listed_unpacked::Unpacked;
 use crate::moves::Move;
 use crate::search::{has, is_part};
 use kind_evidence::NoMemory;
-use machine_text::{Dir, Entry, State, Sym, Table};
+use machine_text::{Entry, State, Sym, Table};
 use std::alloc::Global;
 
 impl Unpacked {
@@ -297,23 +298,5 @@ impl Unpacked {
         ensures below { result < self.now.size }
     {
         self.delta[2 * q as usize + symbol_number(s)]
-    }
-}
-
-// The number of a symbol.
-fn symbol_number(s: Sym) -> usize
-    ensures number { result ≡ symbol_number s }
-    ensures limit { result ≤ 1 }
-{
-    s as usize
-}
-
-// Whether a move is ahead.
-fn is_ahead(dir: Dir, side: Dir) -> bool
-    ensures { IsTrue result ↔ (dir ≡ side) }
-{
-    match (dir, side) {
-        (Dir::L, Dir::L) | (Dir::R, Dir::R) => true,
-        (Dir::L, Dir::R) | (Dir::R, Dir::L) => false,
     }
 }

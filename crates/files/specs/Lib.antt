@@ -1,3 +1,2 @@
 pub mod Paths
 pub mod Opened
-pub mod Written

@@ -29,6 +29,7 @@ pub mod HeaderLaws
 pub mod LinesTaken
 pub mod FirstLines
 pub mod Feeding
+pub mod Headless
 pub mod StageLaws
 pub mod ReadingLaws
 pub mod Loads

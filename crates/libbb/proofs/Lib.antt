@@ -1,5 +1,4 @@
 mod Complete
-mod FirstBytes
 mod Gives
 mod Greatest
 mod Pieces

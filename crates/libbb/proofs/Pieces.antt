@@ -14,7 +14,7 @@ use Rattle.libbb.specs.TreeAnswer.{Reports, TellsOf, no_tree}
 use Rattle.libbb.specs.Pieces.{IsHeadedBy, HasFault, IsBehind}
 use Rattle.libbb.specs.declared.tree_answer.TreeAnswer.{TreeAnswer}
 use Rattle.libbb.specs.declared.behind.Behind.TheVariants.{Headed, Ended}
-use Rattle.libbb.proofs.FirstBytes.{bad_behind}
+use Rattle.ledger.proofs.Headless.{bad_behind}
 use Rattle.libbb.proofs.Gives.{loaded_reports, unloaded_reports}
 
 -- first bytes that are enough

@@ -1,7 +1,6 @@
 // A file that remembers what of it fails.
 use crate::failures::Failures;
 use crate::oddity::Oddity;
-use files::DiskFile;
 use std::fs::{self, Metadata, OpenFile};
 use std::io::{self, ErrorKind, Read, Write};
 
@@ -17,6 +16,16 @@ pub struct NamedFile<'a> {
 impl NamedFile<'_> {
     pub(crate) fn metadata(&self) -> io::Result<Metadata> {
         self.noted(self.file.metadata())
+    }
+
+    // Keeps its first bytes, so many of them.
+    pub(crate) fn cut(&self, len: u64) -> io::Result<()> {
+        self.noted(self.file.set_len(len))
+    }
+
+    // Waits until what it holds is on the disk.
+    pub(crate) fn wait(&self) -> io::Result<()> {
+        self.noted(self.file.sync_data())
     }
 
     fn noted<T>(&self, done: io::Result<T>) -> io::Result<T> {
@@ -51,19 +60,11 @@ impl Read for NamedFile<'_> {
     }
 }
 
-impl DiskFile for NamedFile<'_> {
-    ghost use Rattle.std.specs.Prelude.{None};
-
-    ghost text = { λ file. None };
-
-    fn cut(&mut self, len: u64) -> io::Result<()> {
-        self.noted(self.file.set_len(len))
-    }
-
-    fn write(&mut self, bytes: &[u8]) -> io::Result<usize> {
-        match self.file.write(bytes) {
+impl Write for NamedFile<'_> {
+    fn write(&mut self, buf: &[u8]) -> io::Result<usize> {
+        match self.file.write(buf) {
             Ok(count) => {
-                if count == 0 && !bytes.is_empty() {
+                if count == 0 && !buf.is_empty() {
                     self.remember(&io::Error::from(ErrorKind::WriteZero));
                 }
                 Ok(count)
@@ -75,7 +76,8 @@ impl DiskFile for NamedFile<'_> {
         }
     }
 
-    fn wait(&self) -> io::Result<()> {
-        self.noted(self.file.sync_data())
+    fn flush(&mut self) -> io::Result<()> {
+        let done = self.file.flush();
+        self.noted(done)
     }
 }

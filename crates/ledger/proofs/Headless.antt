@@ -27,7 +27,7 @@ line_long first more line rest none begins = elim (cases_lt (length line) (lengt
 ]
 
 -- no text that begins so has a header: a newline is among the bytes, or they are too many
-abbrev IsBad : List ℕ → Type 0
+abbrev pub IsBad : List ℕ → Type 0
 IsBad text = IsTornHeader text ⊎ HasNoHeader text
 
 module _ (first more : List ℕ) (none : HasNoNewline first) (long : 64 ≤ length first) where

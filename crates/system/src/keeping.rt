@@ -1,10 +1,7 @@
 // What is cut off a ledger is kept beside it.
 use crate::disk::Disk;
-use crate::file_ledger::FileLedger;
 use arrayvec::ArrayString;
-use cmd_options::Durability;
-use std::io::{self, ErrorKind, Read};
-use wire::append_all;
+use std::io::{self, ErrorKind, Read, Write};
 
 // What is put behind the path of a ledger to name the file in which what is cut off it is kept.
 const CUT_SUFFIX: &str = ".cut";
@@ -18,14 +15,14 @@ const PIECE: usize = 4_096;
 /// Appends what stands behind the first bytes of the ledger at a path to the file beside it, `.cut`, and waits for the disk,
 /// unless that is a torn last line alone: what a process that was killed leaves of its last line is no loss. Fails where the
 /// name leads to the ledger itself.
-pub(crate) fn keep_cut<D: Disk>(disk: &D, path: &str, len: u64) -> io::Result<()> {
+pub(crate) fn keep_cut(disk: &Disk<'_>, path: &str, len: u64) -> io::Result<()> {
     if !has_line_behind(disk, path, len)? {
         return Ok(());
     }
     let Some(kept_at) = cut_path(path) else {
         return Err(unfit(disk, path));
     };
-    if disk.is_same(path, &kept_at) {
+    if disk.leads_alike(path, &kept_at) {
         // What leads to the ledger would be cut with it.
         return Err(unfit(disk, &kept_at));
     }
@@ -45,15 +42,15 @@ fn cut_path(path: &str) -> Option<ArrayString<MAX_PATH_BYTES>> {
 }
 
 // What fails where nothing can be kept at a path, which is remembered.
-fn unfit<D: Disk>(disk: &D, path: &str) -> io::Error {
+fn unfit(disk: &Disk<'_>, path: &str) -> io::Error {
     let fault = io::Error::from(ErrorKind::InvalidInput);
-    disk.remember(path, &fault);
+    disk.failures.remember(path, &fault);
     fault
 }
 
 // Whether a line ends behind the first bytes of a file, which need not be there.
-fn has_line_behind<D: Disk>(disk: &D, path: &str, len: u64) -> io::Result<bool> {
-    let mut file = match disk.open(path) {
+fn has_line_behind(disk: &Disk<'_>, path: &str, len: u64) -> io::Result<bool> {
+    let mut file = match disk.opened(path) {
         Ok(file) => file,
         Err(fault) if fault.kind() == ErrorKind::NotFound => return Ok(false),
         Err(fault) => return Err(fault),
@@ -91,10 +88,10 @@ fn skip<R: Read>(from: &mut R, len: u64) -> io::Result<()> {
 }
 
 // Appends what stands behind the first bytes of a file to another, and answers how many bytes that was.
-fn copy_behind<D: Disk>(disk: &D, path: &str, len: u64, to: &str) -> io::Result<u64> {
-    let mut file = disk.open(path)?;
+fn copy_behind(disk: &Disk<'_>, path: &str, len: u64, to: &str) -> io::Result<u64> {
+    let mut file = disk.opened(path)?;
     skip(&mut file, len)?;
-    let mut kept = FileLedger::of(disk.go_on(to)?, Durability::Disk);
+    let mut kept = disk.go_on(to)?;
     let mut buffer = [0; PIECE];
     let mut copied: u64 = 0;
     for _ in 0..u64::MAX {
@@ -102,10 +99,9 @@ fn copy_behind<D: Disk>(disk: &D, path: &str, len: u64, to: &str) -> io::Result<
         if count == 0 {
             break;
         }
-        if append_all(&mut kept, &buffer[..count]).is_err() {
-            return Err(io::Error::from(ErrorKind::Other));
-        }
+        kept.write_all(&buffer[..count])?;
         copied = copied.saturating_add(count as u64);
     }
+    kept.wait()?;
     Ok(copied)
 }

@@ -168,7 +168,11 @@ fn carried_out<S: Environment, R: Read, W: Write, E: Write>(
 }
 
 // Where a command failed, says what of it failed, and why.
-pub(crate) fn tell_reason<S: Saying, E: Write>(system: &S, outcome: Outcome, faults: &Shared<'_, E>) {
+pub(crate) fn tell_reason<S: Saying, E: Write>(
+    system: &S,
+    outcome: Outcome,
+    faults: &Shared<'_, E>,
+) {
     if outcome == Outcome::Failed
         && let Some(reason) = system.reason()
     {

@@ -13,7 +13,7 @@ use wire::{Fault, LedgerOut};
 #[derive(Drop)]
 enum Site {
     // Where it is, or is to be.
-    Standing { path: String },
+    InPlace { path: String },
     // At a place from which it is put at its path, where something may be there already that it replaces.
     Made { place: Place, replace: bool },
 }
@@ -36,8 +36,8 @@ pub struct DiskLedger<'a> {
 
 impl<'a> DiskLedger<'a> {
     // The ledger at a path, which goes on.
-    pub(crate) fn standing(disk: Disk<'a>, path: String, durability: Durability) -> DiskLedger<'a> {
-        DiskLedger::at(disk, Site::Standing { path }, durability)
+    pub(crate) fn in_place(disk: Disk<'a>, path: String, durability: Durability) -> DiskLedger<'a> {
+        DiskLedger::at(disk, Site::InPlace { path }, durability)
     }
 
     // A file that is made at a place, and put in place of what is there already where that is asked for.
@@ -64,7 +64,7 @@ impl<'a> DiskLedger<'a> {
     pub(crate) fn new_file(&self) -> Option<&str> {
         match &self.site {
             Site::Made { place, .. } => place.made(),
-            Site::Standing { .. } => None,
+            Site::InPlace { .. } => None,
         }
     }
 
@@ -72,14 +72,14 @@ impl<'a> DiskLedger<'a> {
     pub(crate) fn put(&self) -> io::Result<()> {
         match &self.site {
             Site::Made { place, .. } => place.put(&self.disk, self.durability),
-            Site::Standing { .. } => Ok(()),
+            Site::InPlace { .. } => Ok(()),
         }
     }
 
     // The file, opened. Where it is made, what is at its place already stays, unless it is to be replaced.
     fn opened(&self) -> io::Result<NamedFile<'a>> {
         match &self.site {
-            Site::Standing { path } => self.disk.go_on(path),
+            Site::InPlace { path } => self.disk.go_on(path),
             Site::Made { place, replace } => place.begun(&self.disk, *replace),
         }
     }
@@ -99,7 +99,7 @@ impl<'a> DiskLedger<'a> {
         ensures { self.new.failures ≡ self.old.failures }
     {
         let is_blank = match &self.site {
-            Site::Standing { path } => {
+            Site::InPlace { path } => {
                 keep_cut(&self.disk, path, len)?;
                 false
             }
@@ -141,7 +141,7 @@ impl<'a> DiskLedger<'a> {
 // Waits for the disk, where that is asked for of what is appended.
 fn wait_for_disk(file: &NamedFile<'_>, site: &Site, durability: Durability) -> io::Result<()> {
     match (site, durability) {
-        (Site::Standing { .. }, Durability::Disk) => file.wait(),
+        (Site::InPlace { .. }, Durability::Disk) => file.wait(),
         _ => Ok(()),
     }
 }

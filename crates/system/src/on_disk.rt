@@ -63,7 +63,7 @@ impl<'a> Files for Disk<'a> {
 
     fn ledger(&mut self, file: &LedgerFile<'_>) -> io::Result<DiskLedger<'a>> {
         let path = file.path.to_string(self.rt.alloc())?;
-        Ok(DiskLedger::standing(*self, path, file.durability))
+        Ok(DiskLedger::in_place(*self, path, file.durability))
     }
 
     fn close(&mut self, _path: &str, _ledger: DiskLedger<'a>) {}

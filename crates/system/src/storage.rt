@@ -6,7 +6,7 @@ pub trait Storage {
     /// The files that a command line names.
     type Files: Files + Drop;
 
-    /// These.
+    /// Hands out the files.
     fn files(&self) -> Self::Files;
 
     /// The SHA-256 of the running program's own bytes; none where they can't be read.

@@ -187,11 +187,14 @@ impl<'a> Sockets for System<'a> {
     type Stream = NamedSocket<'a>;
 
     fn listen(&self) -> io::Result<TcpListener> {
-        self.disk.noted(LOOPBACK, TcpListener::bind(self.disk.rt, "127.0.0.1:0"))
+        self.disk
+            .noted(LOOPBACK, TcpListener::bind(self.disk.rt, "127.0.0.1:0"))
     }
 
     fn connect(&self, listener: &TcpListener) -> io::Result<NamedSocket<'a>> {
-        let stream = self.disk.noted(LOOPBACK, connected(self.disk.rt, listener))?;
+        let stream = self
+            .disk
+            .noted(LOOPBACK, connected(self.disk.rt, listener))?;
         Ok(self.named_socket(stream))
     }
 

@@ -53,9 +53,10 @@ pub fn settle_board<L: LedgerOut, D: Decider, P: Progress>(
 }
 
 /// Settles the open tables of a board that have fewer filled entries than so many, until it has none of them: a round
-/// asks the decider for each that there is, in text order, and puts its record on the board and its line into the
-/// ledger, as `settle_board` does, whose lines are all written at its end; tables that become open by that come in the next
-/// round. Answers how many tables it settled. What ends it early leaves what was settled before.
+/// asks the decider for each that there is, and puts its record on the board and its line into the ledger, as
+/// `settle_board` does, whose lines are all written at its end; tables that become open by that come in the next round.
+/// It takes those of a round in the order of their texts, which no contract says. Answers how many tables it settled. What
+/// ends it early leaves what was settled before.
 pub fn settle_below<L: LedgerOut, D: Decider, P: Progress>(
     alloc: Global,
     board: &mut Board,

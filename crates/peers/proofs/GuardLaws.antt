@@ -1,310 +1,283 @@
 -- What a guard keeps to, whatever line comes.
-use Rattle.std.proofs.Common.{arith, ◌≡◌, ◌∙◌, refl, sym, subst, ap, inl, inr, ℕ, ◌<◌, ◌≤◌, zero, suc, Bool, true, false, cond, List, [], ◌∷◌, ◌++◌, length, length-append, set}
-use Rattle.std.specs.Prelude.{◌⊎◌, ◌==◌, ◌*◌, Option, Some, None, min, nat_lt, position, remove}
-use Rattle.std.specs.List.{position_or_len}
+use Rattle.std.proofs.Common.{arith, ◌≡◌, ◌∙◌, refl, sym, subst, ap, inl, inr, ℕ, ◌<◌, ◌≤◌, zero, suc, Bool, true, false, cond, List, [], ◌∷◌, ◌++◌, length, length-append, map, set, get_or}
+use Rattle.std.specs.Prelude.{◌⊎◌, Option, Some, None, nat_lt, remove}
+use Rattle.std.specs.List.{All, Any, Contains}
 use Rattle.std.proofs.lemmas.Bool.Decides.{nat_tests}
-use Rattle.std.proofs.lemmas.List.{length-set}
-use Rattle.wire.specs.declared.node.Note.{Note}
-use Rattle.wire.specs.declared.node.Note.TheVariants.{Quiet, Strange, Stale, Refused}
+use Rattle.std.proofs.lemmas.List.{length-set, get_or-set_same}
+use Rattle.std.proofs.lemmas.List.Quantifiers.{Any-push}
+use Rattle.std.proofs.lemmas.List.Elements.{All-cons, All-contains, All-contains_itself, All-head, All-push, All-set, All-tail, All-weaker, Contains-get_or}
 use Rattle.wire.specs.declared.node.Out.{Out}
 use Rattle.wire.specs.Fulfilled.{Reply}
-use Rattle.wire.specs.Happening.{Came}
+use Rattle.wire.specs.Happening.{Happening, Came}
 use Rattle.peers.specs.declared.dismissal.Dismissal.{Dismissal}
-use Rattle.peers.specs.declared.granted.Lease.{Lease}
-use Rattle.peers.specs.declared.line_kind.LineKind.{LineKind}
-use Rattle.peers.specs.declared.line_kind.LineKind.TheVariants.{Ask as AskLine, Done as DoneLine, Other as OtherLine}
 use Rattle.peers.specs.declared.passage.Passage.{Passage}
-use Rattle.peers.specs.declared.passage.Passage.TheVariants.{Whole, Done, Ask, GiveBack, Later, Holdout, Nothing}
-use Rattle.peers.specs.Limits.{most_wait_seconds, peer_lease_limit}
-use Rattle.peers.specs.Guard.{AskerState, GuardState, IsGrantedBy, IsLetThrough, IsReturn, IsShutOut, HandsLine, TellsPeer, guard_after, ask_passage_by, asker_at, brought, by_note, forgotten, free_place, gone_back, granted, handed_line, with_answer, idle_passage, idle_passage_by, is_holdout, is_idle_at, is_of, is_over, is_returned_by, is_spent, is_waiting, kind_of, kind_passage, known_passage, new_passage, or_none, other_passage, passage, passage_by, put_at, remembered, returning, told_frames, without_asker}
+use Rattle.peers.specs.declared.passage.Passage.TheVariants.{Whole, Ask, GiveBack, Later, Holdout, Nothing}
+use Rattle.peers.specs.Limits.{peer_lease_limit}
+use Rattle.peers.specs.Guard.{ArePassed, AskerState, GuardState, Guards, HandsLine, IsAsk, IsHanded, IsHonest, IsKnownThen, IsOwnOf, IsReturn, IsToldThen, IsToldBy, Knows, PassesLine, asked_id, granted, later_frame}
+use Rattle.peers.specs.Passing.{Forgets, IsPlaceFor, IsPassage, Remembers, Tells, asker_at, gone_back, handed_line, heard_out, nobody, or_none, put_at}
 
 -- 1. What the node is handed
 
-let_through : (guard : GuardState) (line : List ℕ) (p : Passage) (reply handed : Reply) → reply.to ≡ Came line
-    → handed.to ≡ Came (handed_line guard line p) → IsLetThrough guard reply handed
-let_through guard line Whole reply handed came is = inl (is ∙ sym came)
-let_through guard line Done reply handed came is = inl (is ∙ sym came)
-let_through guard line (Ask id place wait) reply handed came is = inl (is ∙ sym came)
-let_through guard line (GiveBack place) reply handed came is = returns (asker_at guard place).returning refl is
-  where
-    returns : (frame : Option (List ℕ)) → (asker_at guard place).returning ≡ frame → handed.to ≡ Came (handed_line guard line (GiveBack place))
-        → IsLetThrough guard reply handed
-    returns (Some frame) has is = inr (inr (frame, (place, has), is ∙ ap (λ (f : Option (List ℕ)). Came (or_none f)) has))
-    returns None has is = inr (inl (is ∙ ap (λ (f : Option (List ℕ)). Came (or_none f)) has))
-let_through guard line Later reply handed came is = inr (inl is)
-let_through guard line Holdout reply handed came is = inr (inl is)
-let_through guard line Nothing reply handed came is = inr (inl is)
+is_handed : (takes : Bool) (guard : GuardState) (line : List ℕ) (p : Passage) → IsPassage takes guard line p
+    → IsHanded guard.dismissal takes guard line (handed_line guard line p)
+is_handed takes guard line Whole (none, decides, unasked) = subst (λ (d : Option Dismissal). IsHanded d takes guard line line) (sym none) (inl (refl, decides))
+is_handed takes guard line (Ask id place wait) (none, decides, asked, room) =
+    subst (λ (d : Option Dismissal). IsHanded d takes guard line line) (sym none) (inl (refl, decides))
+is_handed takes guard line (GiveBack place) (none, ask, dishonest, within, (frame, has)) =
+    let there = Contains-get_or guard.askers place nobody within in
+    let own : (asker_at guard place).returning ≡ Some (or_none (asker_at guard place).returning) = has ∙ ap (λ (r : Option (List ℕ)). Some (or_none r)) (sym has) in
+    subst (λ (d : Option Dismissal). IsHanded d takes guard line (or_none (asker_at guard place).returning)) (sym none)
+    (inr (dishonest, inr (there.0, asker_at guard place, there.1, there.2, own)))
+is_handed takes guard line Later (none, ask, dishonest) = subst (λ (d : Option Dismissal). IsHanded d takes guard line []) (sym none) (inr (dishonest, inl refl))
+is_handed takes guard line Holdout (none, untaken, is) =
+    subst (λ (d : Option Dismissal). IsHanded d takes guard line []) (sym none)
+    (inr (λ honest. (let e : true ≡ false = sym is ∙ honest.decides untaken in cc), inl refl))
+is_handed takes guard line Nothing (why, is) = subst (λ (d : Option Dismissal). IsHanded d takes guard line []) (sym is) refl
 
-pub lets_through : (takes_holdouts : Bool) (moment : ℕ) (guard : GuardState) (reply handed : Reply) (new : GuardState)
-    → HandsLine takes_holdouts moment guard reply handed new → IsLetThrough guard reply handed
-lets_through takes_holdouts moment guard reply handed new passes =
-    let_through guard passes.line (passage takes_holdouts moment guard passes.line) reply handed passes.came passes.handed_over
+-- 2. Which leases it knows then
 
--- 2. Which leases it knows
+same_known : (guard : GuardState) (line frame told : List ℕ) → Knows guard line frame told guard.askers
+same_known guard line frame told =
+    (All-weaker (Contains guard.askers) (IsKnownThen guard line frame told) (λ asker is. inl is) guard.askers (All-contains_itself guard.askers), λ few. few)
 
-askers_noted : (note : Note) (guard : GuardState) → (by_note note guard).askers ≡ guard.askers
-askers_noted Quiet guard = refl
-askers_noted Stale guard = refl
-askers_noted Strange guard = refl
-askers_noted (Refused number) guard = refl
+all_removed : {X : Type 0} (P : X → Type 0) (xs : List X) (k : ℕ) → All P xs → All P (remove xs k)
+all_removed P [] zero all = all
+all_removed P [] (suc k) all = all
+all_removed P (x ∷ xs) zero all = All-tail P x xs all
+all_removed P (x ∷ xs) (suc k) all = All-cons P x (remove xs k) (All-head P x xs all) (all_removed P xs k (All-tail P x xs all))
 
-askers_either : (b : Bool) (x y : GuardState) (askers : List AskerState) → x.askers ≡ askers → y.askers ≡ askers → (cond b x y).askers ≡ askers
-askers_either true x y askers left right = left
-askers_either false x y askers left right = right
-
-askers_heard : (moment : ℕ) (out : Out) (guard : GuardState) → (with_answer moment out guard).askers ≡ guard.askers
-askers_heard moment out guard =
-    askers_noted out.note (brought moment out.append.items guard)
-    ∙ askers_either (length out.append.items == 0) guard _ guard.askers refl refl
-
-returned_kept : (askers : List AskerState) (k : ℕ) (frame : List ℕ) → IsReturn (remove askers k) frame → IsReturn askers frame
-returned_kept [] zero frame is = is
-returned_kept [] (suc k) frame is = is
-returned_kept (asker ∷ askers) zero frame (place, is) = (suc place, is)
-returned_kept (asker ∷ askers) (suc k) frame (zero, is) = (zero, is)
-returned_kept (asker ∷ askers) (suc k) frame (suc place, is) =
-    let more = returned_kept askers k frame (place, is) in
-    (suc more.0, more.1)
-
-returned_set : (askers : List AskerState) (k : ℕ) (new : AskerState) (frame : List ℕ) → IsReturn (set askers k new) frame
-    → IsReturn askers frame ⊎ (new.returning ≡ Some frame)
-returned_set [] k new frame is = inl is
-returned_set (asker ∷ askers) zero new frame (zero, is) = inr is
-returned_set (asker ∷ askers) zero new frame (suc place, is) = inl (suc place, is)
-returned_set (asker ∷ askers) (suc k) new frame (zero, is) = inl (zero, is)
-returned_set (asker ∷ askers) (suc k) new frame (suc place, is) = elim (returned_set askers k new frame (place, is)) [
-  | inl more ↦ inl (suc more.0, more.1)
-  | inr new ↦ inr new
-]
-
-returned_push : (askers : List AskerState) (new : AskerState) (frame : List ℕ) → IsReturn (askers ++ (new ∷ [])) frame
-    → IsReturn askers frame ⊎ (new.returning ≡ Some frame)
-returned_push [] new frame (zero, is) = inr is
-returned_push [] new frame (suc place, is) = inl (place, is)
-returned_push (asker ∷ askers) new frame (zero, is) = inl (zero, is)
-returned_push (asker ∷ askers) new frame (suc place, is) = elim (returned_push askers new frame (place, is)) [
-  | inl more ↦ inl (suc more.0, more.1)
-  | inr new ↦ inr new
-]
-
-returned_either : (b : Bool) (askers xs ys : List AskerState) (new : AskerState) (frame : List ℕ)
-    → (IsReturn xs frame → IsReturn askers frame ⊎ (new.returning ≡ Some frame)) → (IsReturn ys frame → IsReturn askers frame ⊎ (new.returning ≡ Some frame))
-    → IsReturn (cond b xs ys) frame → IsReturn askers frame ⊎ (new.returning ≡ Some frame)
-returned_either true askers xs ys new frame left right is = left is
-returned_either false askers xs ys new frame left right is = right is
-
-returned_put : (place : ℕ) (new : AskerState) (askers : List AskerState) (frame : List ℕ) → IsReturn (put_at place new askers) frame
-    → IsReturn askers frame ⊎ (new.returning ≡ Some frame)
-returned_put place new askers frame =
-    returned_either (nat_lt place (length askers)) askers (set askers place new) (askers ++ (new ∷ [])) new frame
-    (returned_set askers place new frame) (returned_push askers new frame)
-
-returned_without : (place : Option ℕ) (guard : GuardState) (frame : List ℕ) → IsReturn (without_asker place guard).askers frame → IsReturn guard.askers frame
-returned_without (Some place) guard frame is = returned_kept guard.askers place frame is
-returned_without None guard frame is = is
-
-some_same : {X : Type 0} (x y : X) → Some x ≡ Some y → x ≡ y
-some_same x y e = cc
-
-returned_remembered : (moment id place wait : ℕ) (lease : Option Lease) (guard : GuardState) (frame : List ℕ)
-    → IsReturn (remembered moment id place wait lease guard).askers frame
-    → IsReturn guard.askers frame ⊎ ((l : Lease) × (lease ≡ Some l) × (frame ≡ returning l))
-returned_remembered moment id place wait None guard frame is = inl is
-returned_remembered moment id place wait (Some lease) guard frame is = elim (returned_put place _ guard.askers frame is) [
-  | inl old ↦ inl old
-  | inr new ↦ inr (lease, refl, sym (some_same _ _ new))
-]
-
-returned_after : (moment : ℕ) (line : List ℕ) (out said : Out) (p : Passage) (guard : GuardState) (frame : List ℕ)
-    → said.frames.items ≡ told_frames p out.frames.items → IsReturn (guard_after moment line out p guard).askers frame
-    → IsReturn guard.askers frame ⊎ ((l : Lease) × (granted said.frames.items ≡ Some l) × (frame ≡ returning l))
-returned_after moment line out said Whole guard frame told is = inl (subst (λ askers. IsReturn askers frame) (askers_heard moment out guard) is)
-returned_after moment line out said Done guard frame told is =
-    inl (returned_without (position (is_returned_by line) guard.askers) guard frame
-    (subst (λ askers. IsReturn askers frame) (askers_heard moment out (forgotten line guard)) is))
-returned_after moment line out said (Ask id place wait) guard frame told is =
-    elim (returned_remembered moment id place wait (granted out.frames.items) guard frame
-    (subst (λ askers. IsReturn askers frame) (askers_heard moment out (remembered moment id place wait (granted out.frames.items) guard)) is)) [
-      | inl old ↦ inl old
-      | inr new ↦ inr (new.0, ap granted told ∙ new.1, new.2)
-    ]
-returned_after moment line out said (GiveBack place) guard frame told is = elim (returned_set guard.askers place _ frame is) [
-  | inl old ↦ inl old
-  | inr new ↦ absurd (let e : None ≡ Some frame = new in cc)
-]
-returned_after moment line out said Later guard frame told is = inl is
-returned_after moment line out said Holdout guard frame told is = inl is
-returned_after moment line out said Nothing guard frame told is = inl is
-
-pub knows_granted : (takes_holdouts : Bool) (moment : ℕ) (guard : GuardState) (reply handed : Reply) (new : GuardState) (frame : List ℕ)
-    → HandsLine takes_holdouts moment guard reply handed new → IsReturn new.askers frame → IsReturn guard.askers frame ⊎ IsGrantedBy reply frame
-knows_granted takes_holdouts moment guard reply handed new frame passes is = elim passes.tells.2 [
-  | inl told ↦
-      returned_after moment passes.line handed.out reply.out (passage takes_holdouts moment guard passes.line) guard frame told.0
-      (subst (λ (g : GuardState). IsReturn g.askers frame) told.1 is)
-  | inr refused ↦ inl (subst (λ (g : GuardState). IsReturn g.askers frame) refused.2 is)
-]
-
--- 3. How many it knows
-
-abbrev FewAfter : GuardState → Passage → Type 0
-FewAfter guard (Ask id place wait) = (place < length guard.askers) ⊎ (length guard.askers < peer_lease_limit)
-FewAfter guard Whole = Unit {0}
-FewAfter guard Done = Unit {0}
-FewAfter guard (GiveBack place) = Unit {0}
-FewAfter guard Later = Unit {0}
-FewAfter guard Holdout = Unit {0}
-FewAfter guard Nothing = Unit {0}
-
-position_within : {X : Type 0} (p : X → Bool) (xs : List X) (k : ℕ) → position p xs ≡ Some k → k < length xs
-position_within p xs k is = by_test (nat_lt (position_or_len p xs) (length xs)) refl is
-  where
-    by_test : (b : Bool) → nat_lt (position_or_len p xs) (length xs) ≡ b → cond b (Some (position_or_len p xs)) None ≡ Some k → k < length xs
-    by_test true below e = subst (λ n. n < length xs) (some_same _ _ e) (grind (arith, nat_tests))
-    by_test false past e = absurd (cc)
-
-few_other : (moment id : ℕ) (guard : GuardState) (place : Option ℕ) → free_place moment guard ≡ place → FewAfter guard (other_passage id place)
-few_other moment id guard None is = tt
-few_other moment id guard (Some place) is = by_test (nat_lt (length guard.askers) peer_lease_limit) refl is
-  where
-    by_test : (b : Bool) → nat_lt (length guard.askers) peer_lease_limit ≡ b
-        → cond b (Some (length guard.askers)) (position (is_over moment guard.renewed) guard.askers) ≡ Some place → FewAfter guard (Ask id place 1)
-    by_test true below e = inr (grind (arith, nat_tests))
-    by_test false past e = inl (position_within (is_over moment guard.renewed) guard.askers place e)
-
-few_idle : (moment id place : ℕ) (guard : GuardState) (asker : AskerState) (frame : Option (List ℕ)) → place < length guard.askers
-    → FewAfter guard (idle_passage_by frame moment id place asker)
-few_idle moment id place guard asker (Some frame) within = tt
-few_idle moment id place guard asker None within = by_test (is_waiting moment asker)
-  where
-    by_test : (b : Bool) → FewAfter guard (cond b Later (Ask id place (min (asker.wait * 2) most_wait_seconds)))
-    by_test true = tt
-    by_test false = inl within
-
-few_known : (moment id place : ℕ) (guard : GuardState) (asker : AskerState) → place < length guard.askers
-    → FewAfter guard (known_passage moment guard id place asker)
-few_known moment id place guard asker within = by_test (is_idle_at guard.records asker)
-  where
-    by_test : (b : Bool) → FewAfter guard (cond b (idle_passage moment id place asker) (Ask id place 1))
-    by_test true = few_idle moment id place guard asker asker.returning within
-    by_test false = inl within
-
-few_new : (moment id : ℕ) (guard : GuardState) (place : Option ℕ) → position (is_spent guard.records) guard.askers ≡ place
-    → FewAfter guard (new_passage moment guard id place)
-few_new moment id guard (Some place) is =
-    few_idle moment id place guard (asker_at guard place) (asker_at guard place).returning (position_within (is_spent guard.records) guard.askers place is)
-few_new moment id guard None is = few_other moment id guard (free_place moment guard) refl
-
-few_asked : (moment id : ℕ) (guard : GuardState) (place : Option ℕ) → position (is_of id) guard.askers ≡ place
-    → FewAfter guard (ask_passage_by moment guard id place)
-few_asked moment id guard (Some place) is =
-    few_known moment id place guard (asker_at guard place) (position_within (is_of id) guard.askers place is)
-few_asked moment id guard None is = few_new moment id guard (position (is_spent guard.records) guard.askers) refl
-
-few_kind : (moment : ℕ) (guard : GuardState) (kind : LineKind) → FewAfter guard (kind_passage moment guard kind)
-few_kind moment guard (AskLine id) = few_asked moment id guard (position (is_of id) guard.askers) refl
-few_kind moment guard DoneLine = tt
-few_kind moment guard OtherLine = tt
-
-few_passage : (takes_holdouts : Bool) (moment : ℕ) (guard : GuardState) (line : List ℕ) → FewAfter guard (passage takes_holdouts moment guard line)
-unfolding passage
-few_passage takes_holdouts moment guard line = by_dismissal guard.dismissal
-  where
-    by_holdout : (b : Bool) → FewAfter guard (cond b Holdout (kind_passage moment guard (kind_of line)))
-    by_holdout true = tt
-    by_holdout false = few_kind moment guard (kind_of line)
-
-    by_conduct : (b : Bool) → FewAfter guard (cond b (kind_passage moment guard (kind_of line)) (cond (is_holdout line) Holdout (kind_passage moment guard (kind_of line))))
-    by_conduct true = few_kind moment guard (kind_of line)
-    by_conduct false = by_holdout (is_holdout line)
-
-    by_dismissal : (why : Option Dismissal) → FewAfter guard (passage_by why takes_holdouts moment guard line)
-    by_dismissal (Some why) = tt
-    by_dismissal None = by_conduct takes_holdouts
-
-fewer : (askers : List AskerState) (k : ℕ) → length (remove askers k) ≤ length askers
+fewer : {X : Type 0} (xs : List X) (k : ℕ) → length (remove xs k) ≤ length xs
 fewer [] zero = omega arith
 fewer [] (suc k) = omega arith
-fewer (asker ∷ askers) zero = omega arith
-fewer (asker ∷ askers) (suc k) = let more = fewer askers k in omega arith
+fewer (x ∷ xs) zero = omega arith
+fewer (x ∷ xs) (suc k) = omega (arith, fewer xs k)
 
-few_without : (place : Option ℕ) (guard : GuardState) → length (without_asker place guard).askers ≤ length guard.askers
-few_without (Some place) guard = fewer guard.askers place
-few_without None guard = omega arith
+less_known : (guard : GuardState) (line frame told : List ℕ) (place : ℕ) → Knows guard line frame told (remove guard.askers place)
+less_known guard line frame told place =
+    (all_removed (IsKnownThen guard line frame told) guard.askers place (same_known guard line frame told).0, λ few. omega (arith, fewer guard.askers place))
 
-few_put : (place : ℕ) (new : AskerState) (askers : List AskerState) → (place < length askers) ⊎ (length askers < peer_lease_limit)
-    → length askers ≤ peer_lease_limit → length (put_at place new askers) ≤ peer_lease_limit
-few_put place new askers room few = by_test (nat_lt place (length askers)) refl
+all_put : (P : AskerState → Type 0) (place : ℕ) (asker : AskerState) (askers : List AskerState) → P asker → All P askers → All P (put_at place asker askers)
+all_put P place asker askers is all = by_test (nat_lt place (length askers))
   where
-    by_test : (b : Bool) → nat_lt place (length askers) ≡ b → length (cond b (set askers place new) (askers ++ (new ∷ []))) ≤ peer_lease_limit
-    by_test true below = let same = length-set askers place new in omega arith
+    by_test : (b : Bool) → All P (cond b (set askers place asker) (askers ++ (asker ∷ [])))
+    by_test true = All-set P askers place asker is all
+    by_test false = All-push P askers asker all is
+
+few_put : (place : ℕ) (asker : AskerState) (askers : List AskerState) → (place < length askers) ⊎ (length askers < peer_lease_limit)
+    → length askers ≤ peer_lease_limit → length (put_at place asker askers) ≤ peer_lease_limit
+few_put place asker askers room few = by_test (nat_lt place (length askers)) refl
+  where
+    by_test : (b : Bool) → nat_lt place (length askers) ≡ b → length (cond b (set askers place asker) (askers ++ (asker ∷ []))) ≤ peer_lease_limit
+    by_test true below = let same = length-set askers place asker in omega arith
     by_test false past =
-        let more = length-append askers (new ∷ []) in
+        let more = length-append askers (asker ∷ []) in
         elim room [
           | inl below ↦ absurd (let none : ⊥ = grind (arith, nat_tests) in none)
           | inr few ↦ omega arith
         ]
 
-few_remembered : (moment id place wait : ℕ) (lease : Option Lease) (guard : GuardState) → FewAfter guard (Ask id place wait)
-    → length guard.askers ≤ peer_lease_limit → length (remembered moment id place wait lease guard).askers ≤ peer_lease_limit
-few_remembered moment id place wait None guard room few = few
-few_remembered moment id place wait (Some lease) guard room few = few_put place _ guard.askers room few
+-- 3. What the peer is told
 
-few_after : (moment : ℕ) (line : List ℕ) (out : Out) (p : Passage) (guard : GuardState) → FewAfter guard p → length guard.askers ≤ peer_lease_limit
-    → length (guard_after moment line out p guard).askers ≤ peer_lease_limit
-few_after moment line out Whole guard room few = subst (λ (askers : List AskerState). length askers ≤ peer_lease_limit) (sym (askers_heard moment out guard)) few
-few_after moment line out Done guard room few =
-    let fewer = few_without (position (is_returned_by line) guard.askers) guard in
-    subst (λ (askers : List AskerState). length askers ≤ peer_lease_limit) (sym (askers_heard moment out (forgotten line guard))) (omega arith)
-few_after moment line out (Ask id place wait) guard room few =
-    subst (λ (askers : List AskerState). length askers ≤ peer_lease_limit)
-    (sym (askers_heard moment out (remembered moment id place wait (granted out.frames.items) guard)))
-    (few_remembered moment id place wait (granted out.frames.items) guard room few)
-few_after moment line out (GiveBack place) guard room few = let same = length-set guard.askers place (gone_back moment (asker_at guard place)) in omega arith
-few_after moment line out Later guard room few = few
-few_after moment line out Holdout guard room few = few
-few_after moment line out Nothing guard room few = few
+answered : (takes : Bool) (guard : GuardState) (line : List ℕ) (out : Out) (told : List ℕ) (askers : List AskerState) (new : GuardState)
+    → told ≡ out.frames.items → Knows guard line line told askers
+    → ((lease : List ℕ) → IsAsk line → granted told ≡ Some lease → IsReturn askers lease) → new ≡ heard_out out (record guard { askers = askers })
+    → IsToldThen takes guard line line out told new
+answered takes guard line out told askers new is knows keeps after =
+    subst (λ (n : GuardState). IsToldThen takes guard line line out told n) (sym after) (inl (refl, is, knows, keeps, refl))
 
-pub stays_few : (takes_holdouts : Bool) (moment : ℕ) (guard : GuardState) (reply handed : Reply) (new : GuardState)
-    → HandsLine takes_holdouts moment guard reply handed new → length guard.askers ≤ peer_lease_limit → length new.askers ≤ peer_lease_limit
-stays_few takes_holdouts moment guard reply handed new passes few = elim passes.tells.2 [
-  | inl told ↦
-      subst (λ (g : GuardState). length g.askers ≤ peer_lease_limit) (sym told.1)
-      (few_after moment passes.line handed.out (passage takes_holdouts moment guard passes.line) guard (few_passage takes_holdouts moment guard passes.line) few)
-  | inr refused ↦ subst (λ (g : GuardState). length g.askers ≤ peer_lease_limit) (sym refused.2) few
-]
+-- no lease is granted to who doesn't ask
+ungranted : (line told : List ℕ) (askers : List AskerState) → asked_id line ≡ None → (lease : List ℕ) → IsAsk line → granted told ≡ Some lease
+    → IsReturn askers lease
+ungranted line told askers unasked lease (id, asked) grants = absurd (let e : None ≡ Some id = sym unasked ∙ asked in cc)
 
--- 4. Who is let go
+return_put : (place : ℕ) (asker : AskerState) (askers : List AskerState) (lease : List ℕ) → (place < length askers) ⊎ (length askers < peer_lease_limit)
+    → asker.returning ≡ Some lease → IsReturn (put_at place asker askers) lease
+return_put place asker askers lease room has = by_test (nat_lt place (length askers)) refl
+  where
+    by_test : (b : Bool) → nat_lt place (length askers) ≡ b → IsReturn (cond b (set askers place asker) (askers ++ (asker ∷ []))) lease
+    by_test true below =
+        let within : place < length askers = grind (arith, nat_tests) in
+        let same = length-set askers place asker in
+        let at = Contains-get_or (set askers place asker) place asker (omega arith) in
+        let is : get_or (set askers place asker) place asker ≡ asker = get_or-set_same askers place asker asker within in
+        let there = subst (Contains (set askers place asker)) is at in
+        (there.0, asker, there.1, there.2, has)
+    by_test false past = Any-push (λ (a : AskerState). a.returning ≡ Some lease) askers asker has
 
-shut_passage : (takes_holdouts : Bool) (moment : ℕ) (guard : GuardState) (line : List ℕ) (why : Dismissal) → guard.dismissal ≡ Some why
-    → passage takes_holdouts moment guard line ≡ Nothing
-unfolding passage
-shut_passage takes_holdouts moment guard line why is = ap (λ (d : Option Dismissal). passage_by d takes_holdouts moment guard line) is
+forgotten : (takes : Bool) (guard : GuardState) (line : List ℕ) (out : Out) (told : List ℕ) (at new : GuardState)
+    → asked_id line ≡ None → told ≡ out.frames.items → Forgets guard at → new ≡ heard_out out at → IsToldThen takes guard line line out told new
+forgotten takes guard line out told at new unasked is (inl same) after =
+    answered takes guard line out told guard.askers new is (same_known guard line line told) (ungranted line told guard.askers unasked) (after ∙ ap (heard_out out) same)
+forgotten takes guard line out told at new unasked is (inr (place, less)) after =
+    answered takes guard line out told (remove guard.askers place) new is (less_known guard line line told place)
+    (ungranted line told (remove guard.askers place) unasked) (after ∙ ap (heard_out out) less)
 
-pub shuts_out : (takes_holdouts : Bool) (moment : ℕ) (guard : GuardState) (reply handed : Reply) (new : GuardState) (why : Dismissal)
-    → HandsLine takes_holdouts moment guard reply handed new → guard.dismissal ≡ Some why → IsShutOut guard reply handed new
-shuts_out takes_holdouts moment guard reply handed new why passes is =
-    let nothing = shut_passage takes_holdouts moment guard passes.line why is in
-    let tells = subst (λ (p : Passage). TellsPeer moment passes.line p guard handed.out reply.out new) nothing passes.tells in
-    let over = passes.handed_over ∙ ap (λ (p : Passage). Came (handed_line guard passes.line p)) nothing in
-    elim tells.2 [
-      | inl told ↦ record { handed_over = over; told = told.0; same = told.1 }
-      | inr refused ↦ absurd refused.0
+remembered : (takes : Bool) (guard : GuardState) (line : List ℕ) (id place : ℕ) (out : Out) (told : List ℕ) (at new : GuardState)
+    → asked_id line ≡ Some id → IsPlaceFor guard place → told ≡ out.frames.items → Remembers id place out.frames.items guard at → new ≡ heard_out out at
+    → IsToldThen takes guard line line out told new
+remembered takes guard line id place out told at new asked room is (inl (none, same)) after =
+    answered takes guard line out told guard.askers new is (same_known guard line line told)
+    (λ lease ask grants. absurd (let e : None ≡ Some lease = sym none ∙ ap granted (sym is) ∙ grants in cc)) (after ∙ ap (heard_out out) same)
+remembered takes guard line id place out told at new asked room is (inr (lease, grants, more)) after =
+    let asker : AskerState = record { id = id; returning = Some lease; records = guard.records } in
+    let grants0 : granted told ≡ Some lease = ap granted is ∙ grants in
+    let known : IsKnownThen guard line line told asker = inr (inr (asked, refl, (lease, refl, ap granted is ∙ grants))) in
+    answered takes guard line out told (put_at place asker guard.askers) new is (
+      all_put (IsKnownThen guard line line told) place asker guard.askers known (same_known guard line line told).0,
+      few_put place asker guard.askers room,
+    )
+    (λ other ask grants. return_put place asker guard.askers other room (sym grants0 ∙ grants)) (after ∙ ap (heard_out out) more)
+
+put_off : (takes : Bool) (guard : GuardState) (line frame : List ℕ) (out : Out) (told : List ℕ) (askers : List AskerState) (new : GuardState)
+    → (IsHonest takes guard line → ⊥) → told ≡ later_frame → Knows guard line frame told askers → new ≡ record guard { askers = askers }
+    → IsToldThen takes guard line frame out told new
+put_off takes guard line frame out told askers new dishonest is knows after =
+    subst (λ (n : GuardState). IsToldThen takes guard line frame out told n) (sym after) (inr (inl (dishonest, (is, knows, refl))))
+
+is_told : (takes : Bool) (guard : GuardState) (line : List ℕ) (p : Passage) (out : Out) (told : List ℕ) (new : GuardState) → IsPassage takes guard line p
+    → Tells p guard out told new → IsToldBy guard.dismissal takes guard line (handed_line guard line p) out told new
+is_told takes guard line Whole out told new (none, decides, unasked) (is, (at, forgets, after)) =
+    subst (λ (d : Option Dismissal). IsToldBy d takes guard line line out told new) (sym none) (forgotten takes guard line out told at new unasked is forgets after)
+is_told takes guard line (Ask id place wait) out told new (none, decides, asked, room) (inl (is, (at, remembers, after))) =
+    subst (λ (d : Option Dismissal). IsToldBy d takes guard line line out told new) (sym none)
+    (remembered takes guard line id place out told at new asked room is remembers after)
+is_told takes guard line (Ask id place wait) out told new (none, decides, asked, room) (inr lacks) =
+    subst (λ (d : Option Dismissal). IsToldBy d takes guard line line out told new) (sym none) (inr (inr (inr ((id, asked), lacks))))
+is_told takes guard line (GiveBack place) out told new (none, ask, dishonest, within, (frame, has)) (inl (is, after)) =
+    let asker = asker_at guard place in
+    let back = or_none asker.returning in
+    let own : asker.returning ≡ Some back = has ∙ ap (λ (r : Option (List ℕ)). Some (or_none r)) (sym has) in
+    let known : IsKnownThen guard line back told (gone_back asker) = inr (inl (asker, Contains-get_or guard.askers place nobody within, own, refl)) in
+    let same = length-set guard.askers place (gone_back asker) in
+    subst (λ (d : Option Dismissal). IsToldBy d takes guard line back out told new) (sym none)
+    (put_off takes guard line back out told (set guard.askers place (gone_back asker)) new dishonest is (
+      All-set (IsKnownThen guard line back told) guard.askers place (gone_back asker) known (same_known guard line back told).0,
+      λ few. omega arith,
+    )
+    after)
+is_told takes guard line (GiveBack place) out told new (none, ask, dishonest, within, has) (inr lacks) =
+    subst (λ (d : Option Dismissal). IsToldBy d takes guard line (or_none (asker_at guard place).returning) out told new) (sym none) (inr (inr (inr (ask, lacks))))
+is_told takes guard line Later out told new (none, ask, dishonest) (inl (is, after)) =
+    subst (λ (d : Option Dismissal). IsToldBy d takes guard line [] out told new) (sym none)
+    (put_off takes guard line [] out told guard.askers new dishonest is (same_known guard line [] told) after)
+is_told takes guard line Later out told new (none, ask, dishonest) (inr lacks) =
+    subst (λ (d : Option Dismissal). IsToldBy d takes guard line [] out told new) (sym none) (inr (inr (inr (ask, lacks))))
+is_told takes guard line Holdout out told new (none, untaken, is) (silent, after) =
+    subst (λ (d : Option Dismissal). IsToldBy d takes guard line [] out told new) (sym none) (inr (inr (inl (untaken, is, (silent, after)))))
+is_told takes guard line Nothing out told new (why, is) tells = subst (λ (d : Option Dismissal). IsToldBy d takes guard line [] out told new) (sym is) tells
+
+-- a line passes as the code decides and tells
+pub line_passes : (takes : Bool) (guard : GuardState) (line : List ℕ) (p : Passage) (out said : Out) (new : GuardState) → IsPassage takes guard line p
+    → Tells p guard out said.frames.items new → said.cut ≡ out.cut → said.append.items ≡ out.append.items
+    → PassesLine takes guard line (handed_line guard line p) out said new
+line_passes takes guard line p out said new is tells cut append = record {
+  handed = is_handed takes guard line p is;
+  told = is_told takes guard line p out said.frames.items new is tells;
+  cut = cut;
+  append = append;
+}
+
+pub line_handed : (takes : Bool) (guard : GuardState) (line : List ℕ) (p : Passage) → IsPassage takes guard line p
+    → IsHanded guard.dismissal takes guard line (handed_line guard line p)
+line_handed takes guard line p is = is_handed takes guard line p is
+
+-- 4. One line after another
+
+some_same : {X : Type 0} (x y : X) → Some x ≡ Some y → x ≡ y
+some_same x y e = cc
+
+let_through : (d : Option Dismissal) (takes : Bool) (guard : GuardState) (line frame : List ℕ) → IsHanded d takes guard line frame
+    → (frame ≡ line) ⊎ (frame ≡ []) ⊎ IsReturn guard.askers frame
+let_through (Some why) takes guard line frame is = inr (inl is)
+let_through None takes guard line frame (inl is) = inl is.0
+let_through None takes guard line frame (inr (dishonest, other)) = inr other
+
+own_known : (guard : GuardState) (line frame told : List ℕ) (askers : List AskerState) (lease : List ℕ) → Knows guard line frame told askers
+    → IsReturn askers lease → IsReturn guard.askers lease ⊎ (granted told ≡ Some lease)
+own_known guard line frame told askers lease (all, few) (place, asker, within, at, has) =
+    elim (All-contains (IsKnownThen guard line frame told) askers asker all (place, within, at)) [
+      | inl before ↦ inl (before.0, asker, before.1, before.2, has)
+      | inr (inl back) ↦ absurd (let e : None ≡ Some lease = sym (ap (λ (a : AskerState). a.returning) back.3) ∙ has in cc)
+      | inr (inr new) ↦ inr (new.2.2 ∙ sym new.2.1 ∙ has)
     ]
 
--- the record of a holdout is kept from a node where none is taken
-kept_passage : (moment : ℕ) (guard : GuardState) (line : List ℕ) → is_holdout line ≡ true → handed_line guard line (passage false moment guard line) ≡ []
-unfolding passage
-kept_passage moment guard line is = by_dismissal guard.dismissal
-  where
-    by_holdout : (b : Bool) → b ≡ true → handed_line guard line (cond b Holdout (kind_passage moment guard (kind_of line))) ≡ []
-    by_holdout true e = refl
-    by_holdout false e = absurd (cc)
+own_told : (d : Option Dismissal) (takes : Bool) (guard : GuardState) (line frame : List ℕ) (out : Out) (told : List ℕ) (new : GuardState) (lease : List ℕ)
+    → IsToldBy d takes guard line frame out told new → IsReturn new.askers lease → IsReturn guard.askers lease ⊎ (granted told ≡ Some lease)
+own_told (Some why) takes guard line frame out told new lease (silent, same) is = inl (subst (λ (g : GuardState). IsReturn g.askers lease) same is)
+own_told None takes guard line frame out told new lease (inl (whole, told_is, knows, keeps, after)) is = own_known guard line frame told new.askers lease knows is
+own_told None takes guard line frame out told new lease (inr (inl (dishonest, (later, knows, after)))) is =
+    own_known guard line frame told new.askers lease knows is
+own_told None takes guard line frame out told new lease (inr (inr (inl (untaken, holdout, (silent, after))))) is =
+    inl (subst (λ (g : GuardState). IsReturn g.askers lease) after is)
+own_told None takes guard line frame out told new lease (inr (inr (inr (ask, (silent, after))))) is =
+    inl (subst (λ (g : GuardState). IsReturn g.askers lease) after is)
 
-    by_dismissal : (why : Option Dismissal) → handed_line guard line (passage_by why false moment guard line) ≡ []
-    by_dismissal (Some why) = refl
-    by_dismissal None = by_holdout (is_holdout line) is
+few_told : (d : Option Dismissal) (takes : Bool) (guard : GuardState) (line frame : List ℕ) (out : Out) (told : List ℕ) (new : GuardState)
+    → IsToldBy d takes guard line frame out told new → length guard.askers ≤ peer_lease_limit → length new.askers ≤ peer_lease_limit
+few_told (Some why) takes guard line frame out told new (silent, same) few =
+    subst (λ (g : GuardState). length g.askers ≤ peer_lease_limit) (sym same) few
+few_told None takes guard line frame out told new (inl (whole, told_is, knows, keeps, after)) few = knows.1 few
+few_told None takes guard line frame out told new (inr (inl (dishonest, (later, knows, after)))) few = knows.1 few
+few_told None takes guard line frame out told new (inr (inr (inl (untaken, holdout, (silent, after))))) few =
+    subst (λ (g : GuardState). length g.askers ≤ peer_lease_limit) (sym after) few
+few_told None takes guard line frame out told new (inr (inr (inr (ask, (silent, after))))) few =
+    subst (λ (g : GuardState). length g.askers ≤ peer_lease_limit) (sym after) few
 
-pub keeps_holdouts : (moment : ℕ) (guard : GuardState) (reply handed : Reply) (new : GuardState) (passes : HandsLine false moment guard reply handed new)
-    → is_holdout passes.line ≡ true → handed.to ≡ Came []
-keeps_holdouts moment guard reply handed new passes is = passes.handed_over ∙ ap Came (kept_passage moment guard passes.line is)
+any_first : {X : Type 0} (P : X → Type 0) (x : X) (xs : List X) → P x → Any P (x ∷ xs)
+any_first P x xs is = (0, x, omega arith, refl, is)
+
+any_later : {X : Type 0} (P : X → Type 0) (x : X) (xs : List X) → Any P xs → Any P (x ∷ xs)
+any_later P x xs (k, y, within, at, is) = (suc k, y, omega arith, at, is)
+
+-- what is the peer's own after a line was so before, or was granted by what it was told
+own_before : (takes : Bool) (guard : GuardState) (reply handed : Reply) (at : GuardState) (replies : List Reply) (lease : List ℕ)
+    → HandsLine takes guard reply handed at → IsOwnOf at replies lease → IsOwnOf guard (reply ∷ replies) lease
+own_before takes guard reply handed at replies lease (line, frame, came, goes, passes) (inl is) =
+    elim (own_told guard.dismissal takes guard line frame handed.out reply.out.frames.items at lease passes.told is) [
+      | inl before ↦ inl before
+      | inr grants ↦ inr (any_first (λ (r : Reply). granted r.out.frames.items ≡ Some lease) reply replies grants)
+    ]
+own_before takes guard reply handed at replies lease passes (inr later) =
+    inr (any_later (λ (r : Reply). granted r.out.frames.items ≡ Some lease) reply replies later)
+
+passed_more : (Own More : List ℕ → Type 0) → ((frame : List ℕ) → Own frame → More frame) → (lines handed : List Happening) → ArePassed Own lines handed
+    → ArePassed More lines handed
+passed_more Own More more [] [] is = tt
+passed_more Own More more [] (next ∷ others) is = is
+passed_more Own More more (line ∷ lines) [] is = is
+passed_more Own More more (line ∷ lines) (next ∷ others) (inl same, are) = (inl same, passed_more Own More more lines others are)
+passed_more Own More more (line ∷ lines) (next ∷ others) (inr (inl none), are) = (inr (inl none), passed_more Own More more lines others are)
+passed_more Own More more (line ∷ lines) (next ∷ others) (inr (inr (frame, own, is)), are) =
+    (inr (inr (frame, more frame own, is)), passed_more Own More more lines others are)
+
+pub passes_on : (takes : Bool) (guard new : GuardState) (replies handed : List Reply) → Guards takes guard replies handed new
+    → ArePassed (IsOwnOf guard replies) (map (λ (r : Reply). r.to) replies) (map (λ (r : Reply). r.to) handed)
+passes_on takes guard new [] [] e = tt
+passes_on takes guard new [] (next ∷ others) none = none
+passes_on takes guard new (reply ∷ replies) [] none = none
+passes_on takes guard new (reply ∷ replies) (next ∷ others) (at, (line, frame, came, goes, passes), guards) = (
+  elim (let_through guard.dismissal takes guard line frame passes.handed) [
+    | inl same ↦ inl (goes ∙ ap Came same ∙ sym came)
+    | inr (inl none) ↦ inr (inl (goes ∙ ap Came none))
+    | inr (inr own) ↦ inr (inr (frame, inl own, goes))
+  ],
+  passed_more (IsOwnOf at replies) (IsOwnOf guard (reply ∷ replies))
+      (λ lease is. own_before takes guard reply next at replies lease (line, frame, came, goes, passes) is) (map (λ (r : Reply). r.to) replies)
+      (map (λ (r : Reply). r.to) others) (passes_on takes at new replies others guards),
+)
+
+pub own_leases : (takes : Bool) (guard new : GuardState) (replies handed : List Reply) (lease : List ℕ) → Guards takes guard replies handed new
+    → IsReturn new.askers lease → IsOwnOf guard replies lease
+own_leases takes guard new [] [] lease e is = inl (subst (λ (g : GuardState). IsReturn g.askers lease) e is)
+own_leases takes guard new [] (next ∷ others) lease none is = absurd none
+own_leases takes guard new (reply ∷ replies) [] lease none is = absurd none
+own_leases takes guard new (reply ∷ replies) (next ∷ others) lease (at, passes, guards) is =
+    own_before takes guard reply next at replies lease passes (own_leases takes at new replies others lease guards is)
+
+pub stay_few : (takes : Bool) (guard new : GuardState) (replies handed : List Reply) → Guards takes guard replies handed new
+    → length guard.askers ≤ peer_lease_limit → length new.askers ≤ peer_lease_limit
+stay_few takes guard new [] [] e few = subst (λ (g : GuardState). length g.askers ≤ peer_lease_limit) (sym e) few
+stay_few takes guard new [] (next ∷ others) none few = absurd none
+stay_few takes guard new (reply ∷ replies) [] none few = absurd none
+stay_few takes guard new (reply ∷ replies) (next ∷ others) (at, (line, frame, came, goes, passes), guards) few =
+    stay_few takes at new replies others guards (few_told guard.dismissal takes guard line frame next.out reply.out.frames.items at passes.told few)

@@ -11,24 +11,10 @@ use Rattle.peers.specs.Connections.{Incoming, Taking, Opened, Came, Gone, Passed
 use Rattle.peers.specs.Guard.{GuardState}
 use Rattle.peers.specs.Peers.{PeerState, at_first, peer_at}
 use Rattle.peers.specs.Served.{Served, Exchange, AnswersWhereThere, TakesArrival, Rounds, asker, served}
-use Rattle.peers.specs.Heard.{GuardsAll, GuardsOne, moment_after}
+use Rattle.peers.specs.Heard.{GuardsAll, GuardsOne}
 use Rattle.peers.proofs.Joining.{StaysOr, flushed_gone, flushed_there, place_below, rounds_gone}
 
--- the moment is the one that was told last
-arrival_moment : {N : Type 0} (answers : Answering N) (old : Served N) (came : Incoming) (replies handed : List Reply) (new : Served N)
-    → TakesArrival answers old came replies handed new → new.node.moment ≡ moment_after came old.node.moment
-arrival_moment {N} answers old Opened replies handed new takes = ap (λ (s : Served N). s.node.moment) takes.2
-arrival_moment {N} answers old (Came place piece) replies handed new (told, others) = piece_moment (peer_at old.peers place) told
-  where
-    piece_moment : (before : Option PeerState) → AnswersWhereThere answers old before piece replies handed new (peer_at new.peers place)
-        → new.node.moment ≡ old.node.moment
-    piece_moment None told = ap (λ (n : Guarded N). n.moment) told.2
-    piece_moment (Some peer) told = told.2.moment
-arrival_moment {N} answers old (Gone place) replies handed new takes = ap (λ (n : Guarded N). n.moment) takes.1.node
-arrival_moment {N} answers old (Passed moment) replies handed new takes = ap (λ (n : Guarded N). n.moment) takes.1.node
-arrival_moment {N} answers old (Room place) replies handed new takes = ap (λ (s : Served N). s.node.moment) takes.2
-
--- and what is taken from peers stays the same
+-- what is taken from peers stays the same
 arrival_conduct : {N : Type 0} (answers : Answering N) (old : Served N) (came : Incoming) (replies handed : List Reply) (new : Served N)
     → TakesArrival answers old came replies handed new → new.node.conduct ≡ old.node.conduct
 arrival_conduct {N} answers old Opened replies handed new takes = ap (λ (s : Served N). s.node.conduct) takes.2
@@ -45,7 +31,7 @@ arrival_conduct {N} answers old (Room place) replies handed new takes = ap (λ (
 -- what comes is shown to the guard of the peer from which it comes
 guards_step : {N : Type 0} (answers : Answering N) (old : Served N) (came : Incoming) (replies handed : List Reply) (new : Served N) (place : ℕ)
     (peer : PeerState) → peer_at old.peers place ≡ Some peer → TakesArrival answers old came replies handed new
-    → StaysOr new.peers place (λ next. GuardsOne old.node.conduct.takes_holdouts place old.node.moment peer.guard came replies handed next.guard)
+    → StaysOr new.peers place (λ next. GuardsOne old.node.conduct.takes_holdouts place peer.guard came replies handed next.guard)
 guards_step {N} answers old Opened replies handed new place peer was (none, unhanded, e) =
     inr (
       peer,
@@ -54,7 +40,7 @@ guards_step {N} answers old Opened replies handed new place peer was (none, unha
     )
 guards_step answers old (Came from piece) replies handed new place peer was (told, kept) =
     elim (cases_eq from place) as
-    (λ _. StaysOr new.peers place (λ next. GuardsOne old.node.conduct.takes_holdouts place old.node.moment peer.guard (Came from piece) replies handed next.guard)) [
+    (λ _. StaysOr new.peers place (λ next. GuardsOne old.node.conduct.takes_holdouts place peer.guard (Came from piece) replies handed next.guard)) [
       | inl e ↦
           let here : AnswersWhereThere answers old (Some peer) piece replies handed new (peer_at new.peers place) =
           subst (λ (before : Option PeerState). AnswersWhereThere answers old before piece replies handed new (peer_at new.peers place)) was
@@ -70,7 +56,7 @@ guards_step answers old (Came from piece) replies handed new place peer was (tol
     ]
 guards_step answers old (Gone from) replies handed new place peer was (none, leaves) =
     elim (cases_eq from place) as
-    (λ _. StaysOr new.peers place (λ next. GuardsOne old.node.conduct.takes_holdouts place old.node.moment peer.guard (Gone from) replies handed next.guard)) [
+    (λ _. StaysOr new.peers place (λ next. GuardsOne old.node.conduct.takes_holdouts place peer.guard (Gone from) replies handed next.guard)) [
       | inl here ↦
           let below = place_below old.peers place peer was in
           inl (
@@ -92,27 +78,24 @@ guards_step {N} answers old (Room from) replies handed new place peer was (none,
 
 pub guards_all : {N : Type 0} (answers : Answering N) (takes : Taking) (old : Served N) (exchanges : List Exchange) (new : Served N) (place : ℕ)
     (before after : PeerState) → Rounds answers takes old exchanges new → peer_at old.peers place ≡ Some before → peer_at new.peers place ≡ Some after
-    → GuardsAll old.node.conduct.takes_holdouts place old.node.moment before.guard exchanges after.guard
+    → GuardsAll old.node.conduct.takes_holdouts place before.guard exchanges after.guard
 guards_all {N} answers takes old [] new place before after e was now =
     let same : Some before ≡ Some after = sym was ∙ ap (λ (s : Served N). peer_at s.peers place) (sym e) ∙ now in
     let peer : before ≡ after = cc in
     ap (λ (p : PeerState). p.guard) (sym peer)
 guards_all {N} answers takes old (exchange ∷ exchanges) new place before after (at, (peers, arrives, flushes), others) was now =
-    let takes_all = λ (b : Bool) (moment : ℕ) (guard : GuardState). GuardsAll b place moment guard exchanges after.guard in
     elim (guards_step answers old exchange.came exchange.replies exchange.handed (served at.node at.text peers) place before was arrives) as
-    (λ _. GuardsAll old.node.conduct.takes_holdouts place old.node.moment before.guard (exchange ∷ exchanges) after.guard) [
+    (λ _. GuardsAll old.node.conduct.takes_holdouts place before.guard (exchange ∷ exchanges) after.guard) [
       | inl gone ↦
           let left = rounds_gone answers takes at exchanges new place others (flushed_gone takes (asker exchange.came) peers at.peers place flushes gone) in
           absurd (let e : None ≡ Some after = sym left.1 ∙ now in cc)
       | inr there ↦
           let kept = flushed_there takes (asker exchange.came) peers at.peers place there.0 flushes there.1 in
-          let moment = arrival_moment answers old exchange.came exchange.replies exchange.handed (served at.node at.text peers) arrives in
           let conduct = arrival_conduct answers old exchange.came exchange.replies exchange.handed (served at.node at.text peers) arrives in
           let more = guards_all answers takes at exchanges new place kept.0 after others kept.1 now in (
             there.0.guard,
             there.2,
-            subst (λ (b : Bool). takes_all b (moment_after exchange.came old.node.moment) there.0.guard) (ap (λ (c : Conduct). c.takes_holdouts) conduct)
-                (subst (λ (m : ℕ). takes_all at.node.conduct.takes_holdouts m there.0.guard) moment
-                (subst (λ (g : GuardState). takes_all at.node.conduct.takes_holdouts at.node.moment g) kept.3 more)),
+            subst (λ (b : Bool). GuardsAll b place there.0.guard exchanges after.guard) (ap (λ (c : Conduct). c.takes_holdouts) conduct)
+                (subst (λ (g : GuardState). GuardsAll at.node.conduct.takes_holdouts place g exchanges after.guard) kept.3 more),
           )
     ]

@@ -23,9 +23,8 @@ kept_same out said (Some text) cut append =
 -- the lines of a peer that were fulfilled through its guard
 record Unguarded {N : Type 0} (answers : Answering N) (old : Scene (Guarded N)) (replies : List Reply) (new : Scene (Guarded N)) : Type 0 where
   handed : List Reply
-  guarded : Guards old.node.conduct.takes_holdouts old.node.moment old.node.guard replies handed new.node.guard
+  guarded : Guards old.node.conduct.takes_holdouts old.node.guard replies handed new.node.guard
   whole : Fulfilled answers (scene old.node.node old.text None) handed (scene new.node.node new.text None)
-  moment : new.node.moment ≡ old.node.moment
   conduct : new.node.conduct ≡ old.node.conduct
 
 head_same : {X : Type 0} (x y : X) (xs ys : List X) → x ∷ xs ≡ y ∷ ys → x ≡ y
@@ -40,29 +39,26 @@ unguarded {N} answers lines old [] new order e = record {
   handed = [];
   guarded = ap (λ (s : Scene (Guarded N)). s.node.guard) e;
   whole = ap (λ (s : Scene (Guarded N)). scene s.node.node s.text None) e;
-  moment = ap (λ (s : Scene (Guarded N)). s.node.moment) e;
   conduct = ap (λ (s : Scene (Guarded N)). s.node.conduct) e;
 }
 unguarded answers [] old (reply ∷ replies) new order fulfils = absurd (cc)
 unguarded {N} answers (line ∷ lines) old (reply ∷ replies) new order (node, answer, others) =
     let to : event_of line ≡ reply.to = head_same _ _ _ _ order in
-    let (out, answered, tells, moment, conduct) = subst (λ (h : Happening). Through answers old.node h (Ok reply.out) node) (sym to) answer in
+    let (frame, out, answered, passes, conduct) = subst (λ (h : Happening). Through answers old.node h (Ok reply.out) node) (sym to) answer in
     let more = unguarded answers lines (fulfilled reply.out node old) replies new (tail_same _ _ _ _ order) others in
-    let kept = kept_same out reply.out old.text tells.0 tells.1 in
+    let kept = kept_same out reply.out old.text passes.cut passes.append in
     record {
-      handed = record { to = Came _; out = out } ∷ more.handed;
+      handed = record { to = Came frame; out = out } ∷ more.handed;
       guarded = (
         node.guard,
-        record { line = frame_of line; came = sym to; handed_over = refl; tells = tells },
-        subst (λ (takes : Bool). Guards takes old.node.moment node.guard replies more.handed new.node.guard) (ap (λ c. c.takes_holdouts) conduct)
-            (subst (λ (now : ℕ). Guards node.conduct.takes_holdouts now node.guard replies more.handed new.node.guard) moment more.guarded),
+        (frame_of line, frame, sym to, refl, passes),
+        subst (λ (takes : Bool). Guards takes node.guard replies more.handed new.node.guard) (ap (λ c. c.takes_holdouts) conduct) more.guarded,
       );
       whole = (
         node.node,
         answered,
         subst (λ (text : Option (List ℕ)). Fulfilled answers (scene node.node text None) more.handed (scene new.node.node new.text None)) kept more.whole,
       );
-      moment = more.moment ∙ moment;
       conduct = more.conduct ∙ conduct;
     }
 
@@ -104,7 +100,6 @@ heard_whole answers is_stopped old (Some peer) piece done new after (next, e, (h
           whole = through.whole;
           due = some_same _ _ (fulfilled_sent (Through answers) _ handed.replies _ handed.whole);
           lines = lines;
-          moment = through.moment;
           conduct = through.conduct;
         },
       ),

@@ -6,10 +6,11 @@ pub mod Joining
 pub mod Answering
 pub mod Guarding
 pub mod GuardLaws
+pub mod Asking
+pub mod ByLetters
 pub mod Returning
 pub mod Faults
 pub mod LettingGo
-pub mod Scripts
 pub mod Counting
 pub mod Cores
 pub mod Turns

@@ -1,350 +1,203 @@
--- What a guard makes of the lines of a peer: what of them the node is handed, and what the peer is told.
-use Rattle.std.specs.Prelude.{◌≡◌, ◌⊎◌, ℕ, ◌+◌, ◌-◌, ◌*◌, ◌%◌, ◌^◌, ◌==◌, Bool, true, false, not, max, min, nat_eq, nat_lt, if◌then◌else◌, List, [], ◌∷◌, ◌++◌, Option, Some, None, Result, Ok, Err, codes, flat_map, get_or, length, position, remove, set, slice_get}
-use Rattle.std.specs.List.{ends_with}
+-- What a guard lets through: which of the lines of a peer the node is handed, and what the peer is told.
+use Rattle.std.specs.Prelude.{◌≡◌, ◌≢◌, ◌⊎◌, ◌<◌, ◌≤◌, ℕ, ◌+◌, ◌%◌, ◌^◌, ◌==◌, Bool, true, false, nat_lt, if◌then◌else◌, List, [], ◌∷◌, ◌++◌, Option, Some, None, codes, length, position}
+use Rattle.std.specs.List.{All, Any, Contains, flat_map}
 use Rattle.std.specs.Str.{bytes_eq}
-use Rattle.cert.specs.Claim.{Claim, HaltsClaim, NeverClaim, NoClaim}
 use Rattle.text.specs.Cut.{cut_at}
-use Rattle.wire.specs.declared.message_fault.MsgFault.{MsgFault}
+use Rattle.text.specs.Decimal.{decimal_value}
 use Rattle.wire.specs.declared.node.Note.{Note}
 use Rattle.wire.specs.declared.node.Note.TheVariants.{Quiet, Strange, Stale, Refused}
 use Rattle.wire.specs.declared.node.Out.{Out}
 use Rattle.wire.specs.Fulfilled.{Reply}
-use Rattle.wire.specs.Grammar.{frames_of, message_of, message_text}
+use Rattle.wire.specs.Grammar.{◌>>=◌}
 use Rattle.wire.specs.Happening.{Happening, Came}
-use Rattle.wire.specs.Message.{Message, Ask as AskMessage, Grant, Rec, Ack, Later as LaterMessage, Done as DoneMessage, Stop}
 use Rattle.peers.specs.declared.dismissal.Dismissal.{Dismissal}
 use Rattle.peers.specs.declared.dismissal.Dismissal.TheVariants.{Strange as StrangeLine, Refused as RefusedRecord, Holdout as SentHoldout, NoMemory}
-use Rattle.peers.specs.declared.granted.Lease.{Lease}
-use Rattle.peers.specs.declared.line_kind.LineKind.{LineKind}
-use Rattle.peers.specs.declared.line_kind.LineKind.TheVariants.{Ask as AskLine, Done as DoneLine, Other as OtherLine}
-use Rattle.peers.specs.declared.passage.Passage.{Passage}
-use Rattle.peers.specs.declared.passage.Passage.TheVariants.{Whole, Done, Ask, GiveBack, Later, Holdout, Nothing}
-use Rattle.peers.specs.Limits.{lease_seconds, most_wait_seconds, peer_lease_limit}
+use Rattle.peers.specs.Limits.{peer_lease_limit}
 
--- an id of a peer that asked: the frame that gives its lease back, as long as it has one; how many new records the peer
--- had brought when that was granted; the moment at which it was granted, or given back; and for how many seconds the id
--- waits once it has given it back
+-- an id of a peer that asked: the frame that gives its lease back, as long as it has one; and how many new records the
+-- peer had brought when that was granted
 pub record AskerState : Type 0 where
   pub id : ℕ
   pub returning : Option (List ℕ)
   pub records : ℕ
-  pub since : ℕ
-  pub wait : ℕ
 
--- the ids that asked; how many new records the peer has brought, and the moment of the last; and why it was let go, if it
--- was
+-- the ids that asked; how many new records the peer has brought; and why it was let go, if it was
 pub record GuardState : Type 0 where
   pub askers : List AskerState
   pub records : ℕ
-  pub renewed : ℕ
   pub dismissal : Option Dismissal
 
 abbrev pub fresh : GuardState
-fresh = record { askers = []; records = 0; renewed = 0; dismissal = None }
+fresh = record { askers = []; records = 0; dismissal = None }
 
--- 1. Who asks
+-- 1. Lines by their letters: a guard reads none of them as a message
 
-abbrev pub nobody : AskerState
-nobody = record { id = 0; returning = None; records = 0; since = 0; wait = 0 }
+-- what stands behind a word and a space
+abbrev pub text_behind : List ℕ → List ℕ → Option (List ℕ)
+text_behind word line = cut_at 32 line >>= λ cut. if bytes_eq cut.0 word then Some cut.1 else None
 
-abbrev pub asker_at : GuardState → ℕ → AskerState
-asker_at guard place = get_or guard.askers place nobody
+-- the id of an `ASK`
+unfoldable pub asked_id : List ℕ → Option ℕ
+asked_id line = text_behind (codes "ASK") line >>= λ text. decimal_value text >>= λ id.
+    if nat_lt id (2 ^ 32) then Some id else None
+
+abbrev pub IsAsk : List ℕ → Type 0
+IsAsk line = (id : ℕ) × (asked_id line ≡ Some id)
+
+-- whether it is the record of a holdout: `REC`, a table and `U`
+abbrev pub says_nothing : Option (List ℕ × List ℕ) → Bool
+says_nothing (Some cut) = bytes_eq cut.1 (codes "U")
+says_nothing None = false
+
+unfoldable pub is_holdout : List ℕ → Bool
+is_holdout line = says_nothing (text_behind (codes "REC") line >>= λ text. cut_at 32 text)
+
+-- era and number of the lease that the first of some frames grants, `GRANT era number table`, as they are written
+abbrev pub lease_in : List ℕ → Option (List ℕ × List ℕ)
+lease_in frames =
+    text_behind (codes "GRANT") frames >>= λ text. cut_at 32 text >>= λ first. cut_at 32 first.1 >>= λ second.
+    Some (first.0, second.0)
+
+-- the frame that gives that back
+unfoldable pub granted : List ℕ → Option (List ℕ)
+granted frames = lease_in frames >>= λ lease. Some (codes "DONE " ++ lease.0 ++ codes " " ++ lease.1)
+
+-- 2. A peer that keeps to the protocol
 
 abbrev pub is_of : ℕ → AskerState → Bool
 is_of id asker = asker.id == id
 
--- the peer has brought no new record since the lease was granted
-abbrev pub is_idle_at : ℕ → AskerState → Bool
-is_idle_at records asker = asker.records == records
+-- by this id it may ask: each of its ids by which it brought no new record since the table was granted is another, and
+-- has that table still; and one more may ask
+pub record MayAsk (guard : GuardState) (id : ℕ) : Type 0 where
+  pub owes_nothing :
+      All (λ asker. asker.records ≡ guard.records → (asker.id ≢ id) × (asker.returning ≢ None)) guard.askers
+  pub is_one_of_few : position (is_of id) guard.askers ≡ None → length guard.askers < peer_lease_limit
 
-abbrev pub is_waiting : ℕ → AskerState → Bool
-is_waiting moment asker = nat_lt (moment - asker.since) asker.wait
+-- it sends no holdout where none is taken, and asks where it may
+pub record IsHonest (takes_holdouts : Bool) (guard : GuardState) (line : List ℕ) : Type 0 where
+  pub decides : takes_holdouts ≡ false → is_holdout line ≡ false
+  pub asks : (id : ℕ) → asked_id line ≡ Some id → MayAsk guard id
 
--- it is nothing any more: its lease brought nothing for more than a minute, so that it has ended; or it has waited
-abbrev pub is_over_by : Option (List ℕ) → ℕ → ℕ → AskerState → Bool
-is_over_by (Some frame) moment renewed asker = nat_lt lease_seconds (moment - max asker.since renewed)
-is_over_by None moment renewed asker = not (is_waiting moment asker)
+-- 3. What the node is handed for a line
 
-abbrev pub is_over : ℕ → ℕ → AskerState → Bool
-is_over moment renewed asker = is_over_by asker.returning moment renewed asker
+-- a frame that gives back a lease of these
+abbrev pub IsReturn : List AskerState → List ℕ → Type 0
+IsReturn askers frame = Any (λ asker. asker.returning ≡ Some frame) askers
 
--- where one more may stand: behind the others, or at the place of the first that is over
-abbrev pub free_place : ℕ → GuardState → Option ℕ
-free_place moment guard =
-    if nat_lt (length guard.askers) peer_lease_limit then Some (length guard.askers)
-    else position (is_over moment guard.renewed) guard.askers
+-- nothing, an empty frame, of a peer that was let go. Of another the line; or, where that isn't honest, nothing, or a
+-- frame that gives back a lease that the peer has
+abbrev pub IsHanded : Option Dismissal → Bool → GuardState → List ℕ → List ℕ → Type 0
+IsHanded (Some why) takes_holdouts guard line frame = frame ≡ []
+IsHanded None takes_holdouts guard line frame =
+    ((frame ≡ line) × (takes_holdouts ≡ false → is_holdout line ≡ false))
+    ⊎ ((IsHonest takes_holdouts guard line → ⊥) × ((frame ≡ []) ⊎ IsReturn guard.askers frame))
 
--- 2. What becomes of a line
-
--- a guard sees of a line whether it begins with `A` (65) and is an `ASK`, or begins with `D` (68)
-abbrev pub asked_in : Result Message MsgFault → LineKind
-asked_in (Ok (AskMessage id)) = AskLine id
-asked_in (Ok (Grant era number table)) = OtherLine
-asked_in (Ok (Rec r)) = OtherLine
-asked_in (Ok (Ack table)) = OtherLine
-asked_in (Ok (LaterMessage table)) = OtherLine
-asked_in (Ok (DoneMessage era number)) = OtherLine
-asked_in (Ok Stop) = OtherLine
-asked_in (Err fault) = OtherLine
-
-abbrev pub kind_by : Option ℕ → List ℕ → LineKind
-kind_by None line = OtherLine
-kind_by (Some byte) line =
-    if byte == 65 then asked_in (message_of line) else if byte == 68 then DoneLine else OtherLine
-
-abbrev pub kind_of : List ℕ → LineKind
-kind_of line = kind_by (slice_get line 0) line
-
--- and whether it ends as the record of a holdout does, and is one
-abbrev pub is_no_claim : Claim → Bool
-is_no_claim (HaltsClaim e) = false
-is_no_claim (NeverClaim r) = false
-is_no_claim NoClaim = true
-
-abbrev pub claims_nothing : Result Message MsgFault → Bool
-claims_nothing (Ok (AskMessage id)) = false
-claims_nothing (Ok (Grant era number table)) = false
-claims_nothing (Ok (Rec r)) = is_no_claim r.claim
-claims_nothing (Ok (Ack table)) = false
-claims_nothing (Ok (LaterMessage table)) = false
-claims_nothing (Ok (DoneMessage era number)) = false
-claims_nothing (Ok Stop) = false
-claims_nothing (Err fault) = false
-
-abbrev pub is_holdout : List ℕ → Bool
-is_holdout line = if ends_with nat_eq line (codes " U") then claims_nothing (message_of line) else false
-
--- an `ASK` whose lease brought no new record: that is given back; and then the id waits, the longer the more often
-abbrev pub idle_passage_by : Option (List ℕ) → ℕ → ℕ → ℕ → AskerState → Passage
-idle_passage_by (Some frame) moment id place asker = GiveBack place
-idle_passage_by None moment id place asker =
-    if is_waiting moment asker then Later else Ask id place (min (asker.wait * 2) most_wait_seconds)
-
-abbrev pub idle_passage : ℕ → ℕ → ℕ → AskerState → Passage
-idle_passage moment id place asker = idle_passage_by asker.returning moment id place asker
-
-abbrev pub known_passage : ℕ → GuardState → ℕ → ℕ → AskerState → Passage
-known_passage moment guard id place asker =
-    if is_idle_at guard.records asker then idle_passage moment id place asker else Ask id place 1
-
--- one that gave its lease back, and the peer has brought no new record since that was granted
-abbrev pub is_spent_by : Option (List ℕ) → ℕ → AskerState → Bool
-is_spent_by (Some frame) records asker = false
-is_spent_by None records asker = is_idle_at records asker
-
-abbrev pub is_spent : ℕ → AskerState → Bool
-is_spent records asker = is_spent_by asker.returning records asker
-
--- an `ASK` is handed over, if one more may have a lease
-abbrev pub other_passage : ℕ → Option ℕ → Passage
-other_passage id (Some place) = Ask id place 1
-other_passage id None = Later
-
--- an `ASK` of another id waits as the first such one does, and takes its place: who brings nothing by one id doesn't get
--- more by others. Where there is none it is handed over, if one more may have a lease
-abbrev pub new_passage : ℕ → GuardState → ℕ → Option ℕ → Passage
-new_passage moment guard id (Some place) = idle_passage moment id place (asker_at guard place)
-new_passage moment guard id None = other_passage id (free_place moment guard)
-
-abbrev pub ask_passage_by : ℕ → GuardState → ℕ → Option ℕ → Passage
-ask_passage_by moment guard id (Some place) = known_passage moment guard id place (asker_at guard place)
-ask_passage_by moment guard id None =
-    new_passage moment guard id (position (is_spent guard.records) guard.askers)
-
-abbrev pub ask_passage : ℕ → GuardState → ℕ → Passage
-ask_passage moment guard id = ask_passage_by moment guard id (position (is_of id) guard.askers)
-
-abbrev pub kind_passage : ℕ → GuardState → LineKind → Passage
-kind_passage moment guard (AskLine id) = ask_passage moment guard id
-kind_passage moment guard DoneLine = Done
-kind_passage moment guard OtherLine = Whole
-
-abbrev pub passage_by : Option Dismissal → Bool → ℕ → GuardState → List ℕ → Passage
-passage_by (Some why) takes_holdouts moment guard line = Nothing
-passage_by None takes_holdouts moment guard line =
-    if takes_holdouts then kind_passage moment guard (kind_of line)
-    else if is_holdout line then Holdout else kind_passage moment guard (kind_of line)
-
-unfoldable pub passage : Bool → ℕ → GuardState → List ℕ → Passage
-passage takes_holdouts moment guard line = passage_by guard.dismissal takes_holdouts moment guard line
-
--- 3. What the node is handed
-
-abbrev pub or_none : Option (List ℕ) → List ℕ
-or_none (Some frame) = frame
-or_none None = []
-
--- the line itself; or the frame that gives a lease back; or nothing, an empty frame
-abbrev pub handed_line : GuardState → List ℕ → Passage → List ℕ
-handed_line guard line Whole = line
-handed_line guard line Done = line
-handed_line guard line (Ask id place wait) = line
-handed_line guard line (GiveBack place) = or_none (asker_at guard place).returning
-handed_line guard line Later = []
-handed_line guard line Holdout = []
-handed_line guard line Nothing = []
-
--- 4. What is known after the answer
-
-abbrev pub dismissed_for : Dismissal → GuardState → GuardState
-dismissed_for why guard = record guard { dismissal = Some why }
-
--- who sends what is no message, or a record that is refused, is let go
-abbrev pub by_note : Note → GuardState → GuardState
-by_note Quiet guard = guard
-by_note Stale guard = guard
-by_note Strange guard = dismissed_for StrangeLine guard
-by_note (Refused number) guard = dismissed_for (RefusedRecord number) guard
+-- 4. What is known of the peer then
 
 -- a line by which the ledger gains something has brought a new record
-abbrev pub brought : ℕ → List ℕ → GuardState → GuardState
-brought moment append guard =
-    if length append == 0 then guard
-    else record guard { records = (guard.records + 1) % 2 ^ 64; renewed = moment }
+abbrev pub records_then : List ℕ → ℕ → ℕ
+records_then append records = if length append == 0 then records else (records + 1) % 2 ^ 64
 
-abbrev pub with_answer : ℕ → Out → GuardState → GuardState
-with_answer moment out guard = by_note out.note (brought moment out.append.items guard)
+-- who sends what is no message, or a record that is refused, is let go
+abbrev pub dismissed_by : Note → Option Dismissal → Option Dismissal
+dismissed_by Quiet dismissal = dismissal
+dismissed_by Stale dismissal = dismissal
+dismissed_by Strange dismissal = Some StrangeLine
+dismissed_by (Refused number) dismissal = Some (RefusedRecord number)
 
--- the lease that a frame gives back is none any more
-abbrev pub is_returned_by_frame : Option (List ℕ) → List ℕ → Bool
-is_returned_by_frame (Some returning) frame = bytes_eq returning frame
-is_returned_by_frame None frame = false
+-- an id that asked was known before, as it is; or it has given its lease back by this frame; or its lease was granted
+-- by what the peer is told
+abbrev pub IsKnownThen : GuardState → List ℕ → List ℕ → List ℕ → AskerState → Type 0
+IsKnownThen guard line frame told asker =
+    Contains guard.askers asker
+    ⊎ ((before : AskerState) × Contains guard.askers before × (before.returning ≡ Some frame)
+    × (asker ≡ record before { returning = None }))
+    ⊎ ((asked_id line ≡ Some asker.id) × (asker.records ≡ guard.records)
+    × ((lease : List ℕ) × (asker.returning ≡ Some lease) × (granted told ≡ Some lease)))
 
-abbrev pub is_returned_by : List ℕ → AskerState → Bool
-is_returned_by frame asker = is_returned_by_frame asker.returning frame
-
-abbrev pub without_asker : Option ℕ → GuardState → GuardState
-without_asker (Some place) guard = record guard { askers = remove guard.askers place }
-without_asker None guard = guard
-
-abbrev pub forgotten : List ℕ → GuardState → GuardState
-forgotten frame guard = without_asker (position (is_returned_by frame) guard.askers) guard
-
--- the lease that the first of some frames grants
-abbrev pub granted_in : Result Message MsgFault → Option Lease
-granted_in (Ok (AskMessage id)) = None
-granted_in (Ok (Grant era number table)) = Some (record { era = era; number = number })
-granted_in (Ok (Rec r)) = None
-granted_in (Ok (Ack table)) = None
-granted_in (Ok (LaterMessage table)) = None
-granted_in (Ok (DoneMessage era number)) = None
-granted_in (Ok Stop) = None
-granted_in (Err fault) = None
-
-abbrev pub granted_by : Option (List ℕ × List ℕ) → Option Lease
-granted_by (Some cut) = granted_in (message_of cut.0)
-granted_by None = None
-
-abbrev pub granted : List ℕ → Option Lease
-granted frames = granted_by (cut_at 10 frames)
-
--- the frame that gives it back
-abbrev pub returning : Lease → List ℕ
-returning lease = message_text (DoneMessage lease.era lease.number)
-
-abbrev pub put_at : ℕ → AskerState → List AskerState → List AskerState
-put_at place asker askers = if nat_lt place (length askers) then set askers place asker else askers ++ (asker ∷ [])
-
--- it is remembered
-abbrev pub remembered : ℕ → ℕ → ℕ → ℕ → Option Lease → GuardState → GuardState
-remembered moment id place wait (Some lease) guard = record guard {
-  askers = put_at place (record {
-    id = id;
-    returning = Some (returning lease);
-    records = guard.records;
-    since = moment;
-    wait = wait;
-  }) guard.askers;
-}
-remembered moment id place wait None guard = guard
-
-abbrev pub gone_back : ℕ → AskerState → AskerState
-gone_back moment asker = record asker { returning = None; since = moment }
-
-abbrev pub given_back : ℕ → ℕ → GuardState → GuardState
-given_back moment place guard =
-    record guard { askers = set guard.askers place (gone_back moment (asker_at guard place)) }
-
-abbrev pub guard_after : ℕ → List ℕ → Out → Passage → GuardState → GuardState
-guard_after moment line out Whole guard = with_answer moment out guard
-guard_after moment line out Done guard = with_answer moment out (forgotten line guard)
-guard_after moment line out (Ask id place wait) guard =
-    with_answer moment out (remembered moment id place wait (granted out.frames.items) guard)
-guard_after moment line out (GiveBack place) guard = given_back moment place guard
-guard_after moment line out Later guard = guard
-guard_after moment line out Holdout guard = dismissed_for SentHoldout guard
-guard_after moment line out Nothing guard = guard
+-- all of them, and so many at most
+abbrev pub Knows : GuardState → List ℕ → List ℕ → List ℕ → List AskerState → Type 0
+Knows guard line frame told askers = All (IsKnownThen guard line frame told) askers
+    × (length guard.askers ≤ peer_lease_limit → length askers ≤ peer_lease_limit)
 
 -- 5. What the peer is told
 
 abbrev pub later_frame : List ℕ
-later_frame = frames_of (LaterMessage None ∷ [])
+later_frame = codes "LATER" ++ (10 ∷ [])
 
--- the node's answer; or to come later; or nothing
-abbrev pub told_frames : Passage → List ℕ → List ℕ
-told_frames Whole frames = frames
-told_frames Done frames = frames
-told_frames (Ask id place wait) frames = frames
-told_frames (GiveBack place) frames = later_frame
-told_frames Later frames = later_frame
-told_frames Holdout frames = []
-told_frames Nothing frames = []
+-- the line was handed over, and the peer is told what the node answers; a lease that is granted is known
+abbrev pub HearsAnswer : GuardState → List ℕ → List ℕ → Out → List ℕ → GuardState → Type 0
+HearsAnswer guard line frame out told new =
+    (frame ≡ line) × (told ≡ out.frames.items) × Knows guard line frame told new.askers
+    × ((lease : List ℕ) → IsAsk line → granted told ≡ Some lease → IsReturn new.askers lease)
+    × (new ≡ record {
+      askers = new.askers;
+      records = records_then out.append.items guard.records;
+      dismissal = dismissed_by out.note guard.dismissal;
+    })
 
--- what may take memory: nothing else does
-abbrev pub WantsMemory : Passage → Type 0
-WantsMemory Whole = ⊥
-WantsMemory Done = ⊥
-WantsMemory (Ask id place wait) = Unit {0}
-WantsMemory (GiveBack place) = Unit {0}
-WantsMemory Later = Unit {0}
-WantsMemory Holdout = ⊥
-WantsMemory Nothing = ⊥
+-- it is told to come later
+abbrev pub IsPutOff : GuardState → List ℕ → List ℕ → List ℕ → GuardState → Type 0
+IsPutOff guard line frame told new = (told ≡ later_frame) × Knows guard line frame told new.askers
+    × (new ≡ record guard { askers = new.askers })
 
--- what the node answers is told the peer. The ledger's part stays as it is; where memory is refused, the peer is told
--- nothing, and let go
-abbrev pub TellsPeer : ℕ → List ℕ → Passage → GuardState → Out → Out → GuardState → Type 0
-TellsPeer moment line passage guard out said new =
-    (said.cut ≡ out.cut) × (said.append.items ≡ out.append.items)
-    × (((said.frames.items ≡ told_frames passage out.frames.items) × (new ≡ guard_after moment line out passage guard))
-    ⊎ (WantsMemory passage × (said.frames.items ≡ []) × (new ≡ dismissed_for NoMemory guard)))
+-- it is told nothing, and let go
+abbrev pub IsLetGo : Dismissal → GuardState → List ℕ → GuardState → Type 0
+IsLetGo why guard told new = (told ≡ []) × (new ≡ record guard { dismissal = Some why })
+
+-- who wasn't honest may be put off; who sent a holdout where none is taken is let go, and who asks where memory is
+-- refused
+abbrev pub IsToldThen : Bool → GuardState → List ℕ → List ℕ → Out → List ℕ → GuardState → Type 0
+IsToldThen takes_holdouts guard line frame out told new =
+    HearsAnswer guard line frame out told new
+    ⊎ ((IsHonest takes_holdouts guard line → ⊥) × IsPutOff guard line frame told new)
+    ⊎ ((takes_holdouts ≡ false) × (is_holdout line ≡ true) × IsLetGo SentHoldout guard told new)
+    ⊎ (IsAsk line × IsLetGo NoMemory guard told new)
+
+-- nothing where it was let go before, and it stays so
+abbrev pub IsToldBy : Option Dismissal → Bool → GuardState → List ℕ → List ℕ → Out → List ℕ → GuardState → Type 0
+IsToldBy (Some why) takes_holdouts guard line frame out told new = (told ≡ []) × (new ≡ guard)
+IsToldBy None takes_holdouts guard line frame out told new = IsToldThen takes_holdouts guard line frame out told new
 
 -- 6. One line after another
 
--- a line that came, and what its peer was told; and what the node was handed for it, and its answer
-pub record HandsLine (takes_holdouts : Bool) (moment : ℕ) (guard : GuardState) (reply handed : Reply) (new : GuardState)
-    : Type 0 where
-  pub line : List ℕ
-  pub came : reply.to ≡ Came line
-  pub handed_over : handed.to ≡ Came (handed_line guard line (passage takes_holdouts moment guard line))
-  pub tells : TellsPeer moment line (passage takes_holdouts moment guard line) guard handed.out reply.out new
+-- a line came, the node was handed this frame for it, and of its answer the peer is told this. The ledger's part stays
+-- as it is
+pub record PassesLine (takes_holdouts : Bool) (guard : GuardState) (line frame : List ℕ) (out said : Out)
+    (new : GuardState) : Type 0 where
+  pub handed : IsHanded guard.dismissal takes_holdouts guard line frame
+  pub told : IsToldBy guard.dismissal takes_holdouts guard line frame out said.frames.items new
+  pub cut : said.cut ≡ out.cut
+  pub append : said.append.items ≡ out.append.items
 
-abbrev pub Guards : Bool → ℕ → GuardState → List Reply → List Reply → GuardState → Type 0
-Guards takes_holdouts moment guard [] [] new = new ≡ guard
-Guards takes_holdouts moment guard [] (handed ∷ others) new = ⊥
-Guards takes_holdouts moment guard (reply ∷ replies) [] new = ⊥
-Guards takes_holdouts moment guard (reply ∷ replies) (handed ∷ others) new =
-    (at : GuardState) × HandsLine takes_holdouts moment guard reply handed at
-    × Guards takes_holdouts moment at replies others new
+-- what came, and what its peer was told; and what the node was handed for it, and its answer
+abbrev pub HandsLine : Bool → GuardState → Reply → Reply → GuardState → Type 0
+HandsLine takes_holdouts guard reply handed new =
+    (line : List ℕ) × (frame : List ℕ) × (reply.to ≡ Came line) × (handed.to ≡ Came frame)
+    × PassesLine takes_holdouts guard line frame handed.out reply.out new
 
--- a frame that gives back a lease of these
-abbrev pub IsReturn : List AskerState → List ℕ → Type 0
-IsReturn askers frame = (place : ℕ) × ((get_or askers place nobody).returning ≡ Some frame)
+abbrev pub Guards : Bool → GuardState → List Reply → List Reply → GuardState → Type 0
+Guards takes_holdouts guard [] [] new = new ≡ guard
+Guards takes_holdouts guard [] (handed ∷ others) new = ⊥
+Guards takes_holdouts guard (reply ∷ replies) [] new = ⊥
+Guards takes_holdouts guard (reply ∷ replies) (handed ∷ others) new =
+    (at : GuardState) × HandsLine takes_holdouts guard reply handed at × Guards takes_holdouts at replies others new
 
--- what the node is handed for a line is that line, or nothing, or a frame that gives back a lease that the peer has
-abbrev pub IsLetThrough : GuardState → Reply → Reply → Type 0
-IsLetThrough guard reply handed =
-    (handed.to ≡ reply.to) ⊎ (handed.to ≡ Came [])
-    ⊎ ((frame : List ℕ) × IsReturn guard.askers frame × (handed.to ≡ Came frame))
+-- what a node is handed of some lines: one after another the line itself, or nothing, or a frame that gives back a
+-- lease of the peer's own
+abbrev pub ArePassed : (List ℕ → Type 0) → List Happening → List Happening → Type 0
+ArePassed IsOwn [] [] = Unit {0}
+ArePassed IsOwn [] (handed ∷ others) = ⊥
+ArePassed IsOwn (line ∷ lines) [] = ⊥
+ArePassed IsOwn (line ∷ lines) (handed ∷ others) =
+    ((handed ≡ line) ⊎ (handed ≡ Came []) ⊎ ((frame : List ℕ) × IsOwn frame × (handed ≡ Came frame)))
+    × ArePassed IsOwn lines others
 
--- and that is one that the peer was granted before: no guard has any other
-abbrev pub IsGrantedBy : Reply → List ℕ → Type 0
-IsGrantedBy reply frame = (lease : Lease) × (granted reply.out.frames.items ≡ Some lease) × (frame ≡ returning lease)
-
--- a peer that was let go: the node is handed nothing for a line of it, it is told nothing, and stays let go
-pub record IsShutOut (guard : GuardState) (reply handed : Reply) (new : GuardState) : Type 0 where
-  pub handed_over : handed.to ≡ Came []
-  pub told : reply.out.frames.items ≡ []
-  pub same : new ≡ guard
+-- it is one that the peer had, or was granted by an answer to it
+abbrev pub IsOwnOf : GuardState → List Reply → List ℕ → Type 0
+IsOwnOf guard replies frame =
+    IsReturn guard.askers frame ⊎ Any (λ reply. granted reply.out.frames.items ≡ Some frame) replies
 
 -- 7. What is handed over when the peer is gone: each lease that it has is given back
 

@@ -5,32 +5,29 @@ use Rattle.wire.specs.Happening.{Happening, Came, Ticked, Worked}
 use Rattle.wire.specs.Fulfilled.{Answering}
 use Rattle.peers.specs.declared.conduct.Conduct.{Conduct}
 use Rattle.peers.specs.declared.guarded.Guarded.{Guarded}
-use Rattle.peers.specs.declared.passage.Passage.{Passage}
-use Rattle.peers.specs.Guard.{GuardState, TellsPeer, fresh, handed_line, passage}
+use Rattle.peers.specs.Guard.{GuardState, IsHanded, PassesLine, fresh}
 
 module _ {N : Type 0} where
   -- a node that hears nobody yet
   abbrev pub unheard : Conduct → N → Guarded N
   unheard conduct node = record { node = node; guard = fresh; moment = 0; conduct = conduct }
 
-  -- what becomes of a line
-  abbrev pub passage_at : Guarded N → List ℕ → Passage
-  passage_at at line = passage at.conduct.takes_holdouts at.moment at.guard line
+  -- what the node may be handed of what happens
+  abbrev pub MayHand : Guarded N → Happening → Happening → Type 0
+  MayHand at (Came line) handed =
+      (frame : List ℕ) × IsHanded at.guard.dismissal at.conduct.takes_holdouts at.guard line frame
+      × (handed ≡ Came frame)
+  MayHand at (Ticked moment) handed = handed ≡ Ticked moment
+  MayHand at Worked handed = handed ≡ Worked
 
-  -- what the node is handed of what happens
-  abbrev pub handed_to : Guarded N → Happening → Happening
-  handed_to at (Came line) = Came (handed_line at.guard line (passage_at at line))
-  handed_to at (Ticked moment) = Ticked moment
-  handed_to at Worked = Worked
-
-  -- how it answers: as the node does to what that is handed, and the guard takes note of it
+  -- how it answers: as the node does to what that is handed, and of that the guard tells the peer
   abbrev pub Through : Answering N → Answering (Guarded N)
   Through answers old (Came line) (Ok said) new =
-      (out : Out) × answers old.node (handed_to old (Came line)) (Ok out) new.node
-      × TellsPeer old.moment line (passage_at old line) old.guard out said new.guard
-      × (new.moment ≡ old.moment) × (new.conduct ≡ old.conduct)
+      (frame : List ℕ) × (out : Out) × answers old.node (Came frame) (Ok out) new.node
+      × PassesLine old.conduct.takes_holdouts old.guard line frame out said new.guard × (new.conduct ≡ old.conduct)
   Through answers old (Came line) (Err fault) new =
-      answers old.node (handed_to old (Came line)) (Err fault) new.node × (new ≡ record old { node = new.node })
+      (handed : Happening) × MayHand old (Came line) handed × answers old.node handed (Err fault) new.node
+      × (new ≡ record old { node = new.node })
   Through answers old (Ticked moment) (Ok out) new =
       answers old.node (Ticked moment) (Ok out) new.node × (new ≡ record old { node = new.node; moment = moment })
   Through answers old (Ticked moment) (Err fault) new =
@@ -47,3 +44,8 @@ module _ {N : Type 0} where
 
   abbrev pub InStepWithin : (N → List ℕ → Type 0) → Guarded N → List ℕ → Type 0
   InStepWithin in_step at text = in_step at.node text
+
+  -- what the node keeps, whatever it is handed
+  abbrev pub KeepsThrough : (N → Happening → N → Type 0) → Guarded N → Happening → Guarded N → Type 0
+  KeepsThrough keeps_final old event new =
+      (handed : Happening) × MayHand old event handed × keeps_final old.node handed new.node

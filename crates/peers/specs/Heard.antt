@@ -37,31 +37,22 @@ pub record SaysMore (place : ℕ) (said : List ℕ) (exchanges : List Exchange) 
 abbrev pub all_handed : List Exchange → List Reply
 all_handed exchanges = flat_map (λ exchange. exchange.handed) exchanges
 
--- the moment after what came
-abbrev pub moment_after : Incoming → ℕ → ℕ
-moment_after Opened moment = moment
-moment_after (Came place piece) moment = moment
-moment_after (Gone place) moment = moment
-moment_after (Passed now) moment = now
-moment_after (Room place) moment = moment
-
 -- what the guard of the peer at a place makes of what comes: of that peer's lines, and of nothing else
-abbrev pub GuardsWhere : Bool → Bool → ℕ → GuardState → List Reply → List Reply → GuardState → Type 0
-GuardsWhere true takes_holdouts moment guard replies handed new = Guards takes_holdouts moment guard replies handed new
-GuardsWhere false takes_holdouts moment guard replies handed new = new ≡ guard
+abbrev pub GuardsWhere : Bool → Bool → GuardState → List Reply → List Reply → GuardState → Type 0
+GuardsWhere true takes_holdouts guard replies handed new = Guards takes_holdouts guard replies handed new
+GuardsWhere false takes_holdouts guard replies handed new = new ≡ guard
 
-abbrev pub GuardsOne : Bool → ℕ → ℕ → GuardState → Incoming → List Reply → List Reply → GuardState → Type 0
-GuardsOne takes_holdouts place moment guard Opened replies handed new = new ≡ guard
-GuardsOne takes_holdouts place moment guard (Came from piece) replies handed new =
-    GuardsWhere (nat_eq from place) takes_holdouts moment guard replies handed new
-GuardsOne takes_holdouts place moment guard (Gone from) replies handed new = new ≡ guard
-GuardsOne takes_holdouts place moment guard (Passed now) replies handed new = new ≡ guard
-GuardsOne takes_holdouts place moment guard (Room from) replies handed new = new ≡ guard
+abbrev pub GuardsOne : Bool → ℕ → GuardState → Incoming → List Reply → List Reply → GuardState → Type 0
+GuardsOne takes_holdouts place guard Opened replies handed new = new ≡ guard
+GuardsOne takes_holdouts place guard (Came from piece) replies handed new =
+    GuardsWhere (nat_eq from place) takes_holdouts guard replies handed new
+GuardsOne takes_holdouts place guard (Gone from) replies handed new = new ≡ guard
+GuardsOne takes_holdouts place guard (Passed moment) replies handed new = new ≡ guard
+GuardsOne takes_holdouts place guard (Room from) replies handed new = new ≡ guard
 
 -- and of all that comes
-abbrev pub GuardsAll : Bool → ℕ → ℕ → GuardState → List Exchange → GuardState → Type 0
-GuardsAll takes_holdouts place moment guard [] new = new ≡ guard
-GuardsAll takes_holdouts place moment guard (exchange ∷ exchanges) new =
-    (at : GuardState)
-    × GuardsOne takes_holdouts place moment guard exchange.came exchange.replies exchange.handed at
-    × GuardsAll takes_holdouts place (moment_after exchange.came moment) at exchanges new
+abbrev pub GuardsAll : Bool → ℕ → GuardState → List Exchange → GuardState → Type 0
+GuardsAll takes_holdouts place guard [] new = new ≡ guard
+GuardsAll takes_holdouts place guard (exchange ∷ exchanges) new =
+    (at : GuardState) × GuardsOne takes_holdouts place guard exchange.came exchange.replies exchange.handed at
+    × GuardsAll takes_holdouts place at exchanges new

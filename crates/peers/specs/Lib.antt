@@ -3,6 +3,8 @@ pub mod Connections
 pub mod Waits
 pub mod Limits
 pub mod Guard
+pub mod Passing
+pub mod Letters
 pub mod Guarded
 pub mod Peers
 pub mod Slot
@@ -10,7 +12,6 @@ pub mod Served
 pub mod Sent
 pub mod inside
 pub mod Heard
-pub mod Memory
 pub mod Frames
 pub mod Due
 pub mod Crew

@@ -55,11 +55,10 @@ Hears answers is_stopped node text (Some peer) piece result node' text' left =
 pub record AnswersPiece {N : Type 0} (answers : Answering N) (old : Served N) (peer : PeerState) (piece : List ℕ)
     (replies handed : List Reply) (new : Served N) (next : PeerState) : Type 0 where
   pub asked : events_of (fed peer.lines piece).waiting ≡ map (λ reply. reply.to) replies
-  pub guarded : Guards old.node.conduct.takes_holdouts old.node.moment peer.guard replies handed next.guard
+  pub guarded : Guards old.node.conduct.takes_holdouts peer.guard replies handed next.guard
   pub whole : Fulfilled answers (unseen old) handed (unseen new)
   pub due : next.due ≡ peer.due ++ sent_by replies
   pub lines : next.lines ≡ record { waiting = []; rest = (fed peer.lines piece).rest }
-  pub moment : new.node.moment ≡ old.node.moment
   pub conduct : new.node.conduct ≡ old.node.conduct
 
 -- nothing where the peer is gone

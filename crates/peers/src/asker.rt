@@ -3,7 +3,8 @@ ghost use Rattle.std.specs.Prelude.{◌≡◌, ◌≢◌, [], IfErr, None, OnOk,
 ghost use Rattle.wire.specs.Fulfilled.{BrokenOff, Handed, scene};
 ghost use Rattle.wire.specs.Turned.{EndsInStep, devices};
 ghost use Rattle.wire.specs.declared.turned.TurnFault.TheVariants.{LinkFault as Unlinked};
-ghost use Rattle.peers.specs.Guard.{gone_back, idle_passage, is_idle_at, is_of, is_over, is_returned_by, is_spent, or_none, returned_by};
+ghost use Rattle.peers.specs.Guard.{is_of, returned_by};
+ghost use Rattle.peers.specs.Passing.{BecomesOfIdle, gone_back, is_idle_at, is_spent, or_none};
 
 use crate::alone::hand_alone;
 use crate::limits::{LEASE_SECONDS, MOST_WAIT_SECONDS};
@@ -35,8 +36,6 @@ impl Model for Asker {
       id = a.id;
       returning = option_map (λ frame. frame.items) a.returning;
       records = a.records;
-      since = a.since;
-      wait = a.wait;
     } };
 }
 
@@ -47,8 +46,6 @@ impl Asker {
           id = id;
           returning = Some returning.items;
           records = records;
-          since = moment;
-          wait = wait;
         } }
     {
         Asker {
@@ -94,9 +91,7 @@ impl Asker {
     }
 
     // Whether this is the frame that gives its lease back.
-    pub fn is_returned_by(&self, frame: &[u8]) -> bool
-        ensures { result ≡ is_returned_by frame.now self.now }
-    {
+    pub fn is_returned_by(&self, frame: &[u8]) -> bool {
         match &self.returning {
             Some(returning) => returning.as_slice() == frame,
             None => false,
@@ -104,9 +99,7 @@ impl Asker {
     }
 
     // Whether it is nothing any more at this moment: its lease brought nothing for more than a minute, or it has waited.
-    pub fn is_over(&self, moment: u64, renewed: u64) -> bool
-        ensures { result ≡ is_over moment renewed self.now }
-    {
+    pub fn is_over(&self, moment: u64, renewed: u64) -> bool {
         let quiet = match &self.returning {
             Some(_) => moment.saturating_sub(self.since.max(renewed)),
             None => return moment.saturating_sub(self.since) >= self.wait,
@@ -116,7 +109,7 @@ impl Asker {
 
     // What becomes of an `ASK` of this id at its place, where the peer has brought no new record since.
     pub fn idle_passage(&self, moment: u64, id: u32, place: usize) -> Passage
-        ensures { result ≡ idle_passage moment id place self.now }
+        ensures { BecomesOfIdle id place self.now result }
     {
         if self.returning.is_some() {
             Passage::GiveBack { place }
@@ -133,7 +126,7 @@ impl Asker {
 
     // The lease was given back.
     pub fn give_back(&mut self, moment: u64)
-        ensures { self.new ≡ gone_back moment self.old }
+        ensures { self.new ≡ gone_back self.old }
     {
         self.returning = None;
         self.since = moment;

@@ -1,16 +1,17 @@
 // The guard of a peer.
-ghost use Rattle.std.specs.Prelude.{◌≡◌, ◌≢◌, ◌<◌, List, [], IfErr, IfSome, None, OnErr, OnOk, false, length, position, true};
+ghost use Rattle.std.specs.Prelude.{◌≡◌, ◌≢◌, ◌<◌, List, [], IfErr, IfNone, IfSome, None, OnErr, OnOk, Some, false, length, position, true};
 ghost use Rattle.wire.specs.Fulfilled.{BrokenOff, Handed, scene};
 ghost use Rattle.wire.specs.Happening.{Happening};
 ghost use Rattle.wire.specs.Turned.{EndsInStep, devices};
 ghost use Rattle.wire.specs.declared.turned.TurnFault.TheVariants.{LinkFault as Unlinked};
-ghost use Rattle.peers.specs.Guard.{TellsPeer, ask_passage, brought, dismissed_for, forgotten, free_place, fresh, given_back, granted, handed_line, with_answer, is_of, is_over, is_returned_by, is_spent, later_frame, new_passage, passage, put_at, remembered, returned};
+ghost use Rattle.peers.specs.Guard.{fresh, is_of, later_frame, returned};
+ghost use Rattle.peers.specs.Limits.{peer_lease_limit};
+ghost use Rattle.peers.specs.Passing.{BecomesOfAsk, Forgets, IsPlaceFor, IsPassage, Remembers, Tells, given_back, handed_line, heard_out, is_spent, put_at};
 
 use crate::asker::Asker;
 use crate::dismissal::Dismissal;
-use crate::granted::granted;
+use crate::letters::{asked_id, is_holdout, returning};
 use crate::limits::MAX_PEER_LEASES;
-use crate::line_kind::{LineKind, is_holdout, kind_of};
 use crate::passage::Passage;
 use std::alloc::Global;
 use std::marker::Model;
@@ -34,12 +35,7 @@ impl Model for Guard {
 
     ghost Value = { GuardState };
 
-    ghost view = { λ a. record {
-      askers = a.askers.items;
-      records = a.records;
-      renewed = a.renewed;
-      dismissal = a.dismissal;
-    } };
+    ghost view = { λ a. record { askers = a.askers.items; records = a.records; dismissal = a.dismissal } };
 }
 
 impl Guard {
@@ -63,10 +59,9 @@ impl Guard {
         self.dismissal
     }
 
-    #[tactic(auto, unfolding(crate::specs::Guard::passage))]
     // What becomes of a line at this moment.
     pub(crate) fn passage(&self, takes_holdouts: bool, moment: u64, line: &[u8]) -> Passage
-        ensures { result ≡ passage takes_holdouts moment self.now line.now }
+        ensures { IsPassage takes_holdouts self.now line.now result }
     {
         if self.dismissal.is_some() {
             return Passage::Nothing;
@@ -74,34 +69,24 @@ impl Guard {
         if !takes_holdouts && is_holdout(line) {
             return Passage::Holdout;
         }
-        match kind_of(line) {
-            LineKind::Ask(id) => self.ask_passage(moment, id),
-            LineKind::Done => Passage::Done,
-            LineKind::Other => Passage::Whole,
+        match asked_id(line) {
+            Some(id) => self.ask_passage(moment, id),
+            None => Passage::Whole,
         }
     }
 
-    // What becomes of an `ASK`.
+    // What becomes of an `ASK`. Who brings nothing by one id doesn't get more by others: where some id gave its lease back,
+    // and nothing came since, an id that has no place waits as that one does.
     fn ask_passage(&self, moment: u64, id: u32) -> Passage
-        ensures { result ≡ ask_passage moment self.now id }
+        ensures { BecomesOfAsk self.now id result }
     {
         if let Some(place) = self.place_of(id) {
             let asker = &self.askers[place];
-            if asker.is_idle(self.records) {
-                asker.idle_passage(moment, id, place)
-            } else {
-                Passage::Ask { id, place, wait: 1 }
+            if !asker.is_idle(self.records) {
+                return Passage::Ask { id, place, wait: 1 };
             }
-        } else {
-            self.new_passage(moment, id)
-        }
-    }
-
-    // What becomes of an `ASK` of an id that has no place: where others brought nothing, it waits as the first of them does.
-    fn new_passage(&self, moment: u64, id: u32) -> Passage
-        ensures { result ≡ new_passage moment self.now id (position (is_spent self.now.records) self.now.askers) }
-    {
-        if let Some(place) = self.first_spent() {
+            asker.idle_passage(moment, id, place)
+        } else if let Some(place) = self.first_spent() {
             self.askers[place].idle_passage(moment, id, place)
         } else if let Some(place) = self.free_place(moment) {
             Passage::Ask { id, place, wait: 1 }
@@ -112,8 +97,7 @@ impl Guard {
 
     // The place of the first asker that gave its lease back, where the peer has brought no new record since.
     fn first_spent(&self) -> Option<usize>
-        ensures value { result ≡ position (is_spent self.now.records) self.now.askers }
-        ensures within { IfSome result (λ place. place < length self.now.askers) }
+        ensures { result ≡ position (is_spent self.now.records) self.now.askers }
     {
         let records = self.records;
         self.askers.iter().position(|asker| asker.is_spent(records))
@@ -121,26 +105,19 @@ impl Guard {
 
     // The place of the asker with this id.
     fn place_of(&self, id: u32) -> Option<usize>
-        ensures value { result ≡ position (is_of id) self.now.askers }
-        ensures within { IfSome result (λ place. place < length self.now.askers) }
+        ensures { result ≡ position (is_of id) self.now.askers }
     {
         self.askers.iter().position(|asker| asker.is_of(id))
     }
 
-    // Where one more asker may stand: behind the others, or at the place of one that is over.
+    // Where one more asker may stand: behind the others, or at the place of the first that is over.
     fn free_place(&self, moment: u64) -> Option<usize>
-        ensures { result ≡ free_place moment self.now }
+        ensures room { IfSome result (λ place. IsPlaceFor self.now place) }
+        ensures few { length self.now.askers < peer_lease_limit → result ≢ None }
     {
         if self.askers.len() < MAX_PEER_LEASES {
             return Some(self.askers.len());
         }
-        self.first_over(moment)
-    }
-
-    // The place of the first asker that is over.
-    fn first_over(&self, moment: u64) -> Option<usize>
-        ensures { result ≡ position (is_over moment self.now.renewed) self.now.askers }
-    {
         let renewed = self.renewed;
         self.askers
             .iter()
@@ -152,7 +129,7 @@ impl Guard {
         ensures { result.now ≡ handed_line self.now line.now passage }
     {
         match passage {
-            Passage::Whole | Passage::Done | Passage::Ask { .. } => line,
+            Passage::Whole | Passage::Ask { .. } => line,
             Passage::GiveBack { place } => self.returning(place),
             Passage::Later | Passage::Holdout | Passage::Nothing => &[],
         }
@@ -170,11 +147,12 @@ impl Guard {
 
     // Takes note of the node's answer to a line, and leaves of its frames what the peer is told.
     pub(crate) fn tell(&mut self, moment: u64, line: &[u8], passage: Passage, out: &mut Out)
-        ensures { TellsPeer moment line.now passage self.old out.old out.new self.new }
+        ensures tells { Tells passage self.old out.old out.new.frames.items self.new }
+        ensures cut { out.new.cut ≡ out.old.cut }
+        ensures append { out.new.append.items ≡ out.old.append.items }
     {
         match passage {
-            Passage::Whole => self.hear(moment, out),
-            Passage::Done => {
+            Passage::Whole => {
                 self.forget(line);
                 self.hear(moment, out);
             }
@@ -183,7 +161,7 @@ impl Guard {
             Passage::Later => self.tell_later(out),
             Passage::Holdout => {
                 out.frames.clear();
-                self.dismiss(Dismissal::Holdout);
+                self.dismissal = Some(Dismissal::Holdout);
             }
             Passage::Nothing => out.frames.clear(),
         }
@@ -191,78 +169,72 @@ impl Guard {
 
     // The node answered to an `ASK`.
     fn tell_asker(&mut self, moment: u64, id: u32, place: usize, wait: u64, out: &mut Out)
-        ensures { TellsPeer moment [] (Passage.Ask id place wait) self.old out.old out.new self.new }
+        ensures tells { Tells (Passage.Ask id place wait) self.old out.old out.new.frames.items self.new }
+        ensures cut { out.new.cut ≡ out.old.cut }
+        ensures append { out.new.append.items ≡ out.old.append.items }
     {
         match self.remember(moment, id, place, wait, &out.frames) {
             Ok(()) => self.hear(moment, out),
             Err(_) => {
                 out.frames.clear();
-                self.dismiss(Dismissal::NoMemory);
+                self.dismissal = Some(Dismissal::NoMemory);
             }
         }
     }
 
     // A lease was given back.
     fn tell_back(&mut self, moment: u64, place: usize, out: &mut Out)
-        ensures { TellsPeer moment [] (Passage.GiveBack place) self.old out.old out.new self.new }
+        ensures tells { Tells (Passage.GiveBack place) self.old out.old out.new.frames.items self.new }
+        ensures cut { out.new.cut ≡ out.old.cut }
+        ensures append { out.new.append.items ≡ out.old.append.items }
     {
         if put_later(&mut out.frames) {
             self.give_back(moment, place);
         } else {
-            self.dismiss(Dismissal::NoMemory);
+            self.dismissal = Some(Dismissal::NoMemory);
         }
     }
 
     // Who asked comes later.
     fn tell_later(&mut self, out: &mut Out)
-        ensures { TellsPeer 0 [] Passage.Later self.old out.old out.new self.new }
+        ensures tells { Tells Passage.Later self.old out.old out.new.frames.items self.new }
+        ensures cut { out.new.cut ≡ out.old.cut }
+        ensures append { out.new.append.items ≡ out.old.append.items }
     {
         if !put_later(&mut out.frames) {
-            self.dismiss(Dismissal::NoMemory);
+            self.dismissal = Some(Dismissal::NoMemory);
         }
     }
 
-    // The peer is let go.
-    fn dismiss(&mut self, why: Dismissal)
-        ensures { self.new ≡ dismissed_for why self.old }
-    {
-        self.dismissal = Some(why);
-    }
-
-    // The node answered to a line that it was handed.
+    // The node answered to a line that it was handed: one by which the ledger gains something has brought a new record.
     fn hear(&mut self, moment: u64, out: &Out)
-        ensures { self.new ≡ with_answer moment out.now self.old }
+        ensures { self.new ≡ heard_out out.now self.old }
     {
-        self.count(moment, &out.append);
-        match out.note {
-            Note::Quiet | Note::Stale => {}
-            Note::Strange => self.dismiss(Dismissal::Strange),
-            Note::Refused(number) => self.dismiss(Dismissal::Refused(number)),
-        }
-    }
-
-    // The ledger gains this by a line.
-    fn count(&mut self, moment: u64, append: &[u8])
-        ensures { self.new ≡ brought moment append.now self.old }
-    {
-        if !append.is_empty() {
+        if !out.append.is_empty() {
             self.records = self.records.wrapping_add(1);
             self.renewed = moment;
         }
+        match out.note {
+            Note::Quiet | Note::Stale => {}
+            Note::Strange => self.dismissal = Some(Dismissal::Strange),
+            Note::Refused(number) => self.dismissal = Some(Dismissal::Refused(number)),
+        }
     }
 
-    // A lease ends by this frame, if it gives one back.
-    fn forget(&mut self, frame: &[u8])
-        ensures { self.new ≡ forgotten frame.now self.old }
+    // A lease ends by this line, if it gives one back.
+    fn forget(&mut self, line: &[u8])
+        ensures { Forgets self.old self.new }
     {
-        if let Some(place) = self.place_returned_by(frame) {
+        if !line.starts_with(b"DONE ") {
+            return;
+        }
+        if let Some(place) = self.place_returned_by(line) {
             let _ = self.askers.remove(place);
         }
     }
 
     fn place_returned_by(&self, frame: &[u8]) -> Option<usize>
-        ensures value { result ≡ position (is_returned_by frame.now) self.now.askers }
-        ensures within { IfSome result (λ place. place < length self.now.askers) }
+        ensures { IfSome result (λ place. place < length self.now.askers) }
     {
         self.askers
             .iter()
@@ -278,14 +250,13 @@ impl Guard {
         wait: u64,
         frames: &[u8],
     ) -> Result<(), NoMemory>
-        ensures ok { OnOk result (self.new ≡ remembered moment id place wait (granted frames.now) self.old) }
+        ensures ok { OnOk result (Remembers id place frames.now self.old self.new) }
         ensures err { OnErr result (self.new ≡ self.old) }
     {
-        let Some(lease) = granted(frames) else {
+        let Some(lease) = returning(self.alloc, frames)? else {
             return Ok(());
         };
-        let returning = lease.returning(self.alloc)?;
-        self.put(place, Asker::new(id, returning, self.records, moment, wait))
+        self.put(place, Asker::new(id, lease, self.records, moment, wait))
     }
 
     // Puts an asker at a place, or behind the others.
@@ -305,7 +276,7 @@ impl Guard {
 
     // The lease at a place is given back.
     fn give_back(&mut self, moment: u64, place: usize)
-        ensures { self.new ≡ given_back moment place self.old }
+        ensures { self.new ≡ given_back place self.old }
     {
         if place < self.askers.len() {
             self.askers[place].give_back(moment);
@@ -335,7 +306,6 @@ impl Guard {
     }
 }
 
-#[tactic(auto, unfolding(wire::specs::Grammar::message_text))]
 // Puts the frame `LATER` in place of others, and says whether there was memory for it; where there wasn't, there is no frame.
 fn put_later(frames: &mut Vec<u8>) -> bool
     ensures told { result ≡ true → frames.new.items ≡ later_frame }

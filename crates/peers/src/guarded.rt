@@ -63,7 +63,7 @@ impl<N> Guarded<N> {
 }
 
 impl<N: Node> Node for Guarded<N> {
-    ghost use Rattle.peers.specs.Guarded.{InStepWithin, StoppedWithin, Through, handed_to};
+    ghost use Rattle.peers.specs.Guarded.{InStepWithin, KeepsThrough, StoppedWithin, Through};
 
     ghost is_stopped = { StoppedWithin N.is_stopped };
 
@@ -71,7 +71,7 @@ impl<N: Node> Node for Guarded<N> {
 
     ghost answers = { Through N.answers };
 
-    ghost keeps_final = { λ old event new. N.keeps_final old.node (handed_to old event) new.node };
+    ghost keeps_final = { KeepsThrough N.keeps_final };
 
     fn on(&mut self, e: Event<'_>) -> Result<Out, NodeFault> {
         match e {

@@ -2,10 +2,10 @@
 //! is handed in their order, and what the node answers goes to the peer that asked, and to no other. And several workers in one
 //! process, over one stream to a coordinator.
 //!
-//! `specs/Connections` says what comes from outside, `specs/Peers` what is known of a peer, `specs/Served` what becomes
-//! of a node, its ledger and its peers by what comes, `specs/Sent` what is sent to whom, and `specs/Heard` what the node
-//! hears of each. [`Connections`] is all that is asked of the world outside; [`serve`] takes what comes from them and sends
-//! what is answered. It knows of no socket: connections in memory stand beside those of a system.
+//! `specs/Connections` says what comes from outside, `specs/Guard` what of a peer's lines the node is handed, `specs/Peers`
+//! what is known of a peer, `specs/Served` what becomes of a node, its ledger and its peers by what comes, `specs/Sent` what is
+//! sent to whom, and `specs/Heard` what the node hears of each. [`Connections`] is all that is asked of the world outside;
+//! [`serve`] takes what comes from them and sends what is answered. It knows of no socket.
 //!
 //! A [`Pool`] has cores, each a worker and its ledger. The coordinator answers the frames of a stream in their order,
 //! so the answer to an `ASK` is for the core whose `ASK` is the oldest that is unanswered, and the word on a record,
@@ -27,15 +27,13 @@ mod course;
 mod crew;
 mod dismissal;
 mod frames;
-mod granted;
 mod guard;
 mod guarded;
 mod guest;
 mod hearing;
 mod laws;
+mod letters;
 mod limits;
-mod line_kind;
-mod mem_connections;
 mod outbox;
 mod passage;
 mod peer;
@@ -57,9 +55,10 @@ pub use guarded::Guarded;
 pub use guest::{
     Digits, Guest, Heard, MAX_GUEST_BYTES, Refusal, Role, greeted, is_answer, letter, nonce_of,
 };
-pub use laws::{answers_follow, guards_decide, guards_let_through, peers_keep_apart};
+pub use laws::{
+    answers_follow, guards_decide, guards_let_through, letters_say_messages, peers_keep_apart,
+};
 pub use limits::{LEASE_SECONDS, MAX_PEER_LEASES, MAX_WORK_TURNS, MOST_WAIT_SECONDS};
-pub use mem_connections::{MemConnections, Scripted};
 pub use outbox::Outbox;
 pub use peer::Peer;
 pub use peers::Peers;

@@ -5,8 +5,6 @@
 pub(crate) enum Passage {
     // The line is handed over.
     Whole,
-    // The line is handed over: by it a lease ends.
-    Done,
     // The line is handed over: an `ASK` of this id. Where it brings a lease, that is remembered at this place, and if nothing
     // comes of it the id waits for so many seconds.
     Ask { id: u32, place: usize, wait: u64 },

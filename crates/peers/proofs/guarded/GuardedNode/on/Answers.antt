@@ -1,19 +1,20 @@
-use Rattle.std.proofs.Common.{◌∙◌, List, Ok, ap, refl, subst, ℕ}
+use Rattle.std.proofs.Common.{List, Ok, refl, subst, ℕ}
 use Rattle.wire.specs.Happening.{Came}
-use Rattle.peers.specs.declared.passage.Passage.{Passage}
-use Rattle.peers.specs.Guard.{TellsPeer, handed_line}
+use Rattle.peers.specs.Passing.{handed_line}
+use Rattle.peers.proofs.GuardLaws.{line_passes}
 use Rattle.peers.proofs.guarded.GuardedNode.on.Goals as goal
 
 pub returns-in_ok-out-in-Frame-clause-answer : goal.returns-in_ok-out-in-Frame-clause-answer
 returns-in_ok-out-in-Frame-clause-answer g c =
-    let is = c.passage-passage.ensures in
+    let at = c.args.self.now in
     let line = c.in-Frame.line.now in
     let out = c.in_ok-out-in-Frame.out in
+    let p = c.passage-passage.result in
     rw c.in-Frame.is (
+      handed_line at.guard line p,
       out,
-      subst (λ (l : List ℕ). g.N.Node.answers c.args.self.now.node (Came l) (Ok out) c.on.new.self)
-          (c.handed_line-handed.ensures ∙ ap (λ (p : Passage). handed_line c.args.self.now.guard line p) is) c.in_ok-out-in-Frame.ensures.answer,
-      subst (λ (p : Passage). TellsPeer c.args.self.now.moment line p c.args.self.now.guard out c.tell.new.out c.tell.new.self) is c.tell.ensures,
-      refl,
+      subst (λ (l : List ℕ). g.N.Node.answers at.node (Came l) (Ok out) c.on.new.self) c.handed_line-handed.ensures c.in_ok-out-in-Frame.ensures.answer,
+      line_passes at.conduct.takes_holdouts at.guard line p out c.tell.new.out c.tell.new.self c.passage-passage.ensures c.tell.ensures.tells c.tell.ensures.cut
+          c.tell.ensures.append,
       refl,
     )

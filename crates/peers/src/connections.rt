@@ -30,8 +30,8 @@ pub trait Connections {
     /// The peer that was to be let go last, and why.
     ghost dismissed: { Self → Option Dismissed };
 
-    /// What comes next. It waits for no peer: where nothing comes for a while, it says what time it is. After a fault
-    /// nothing is lost.
+    /// What comes next. After a fault nothing is lost. That it waits for no peer, and says what time it is where nothing comes for a
+    /// while, an implementation sees to: no contract speaks of time.
     fn next_arrival(&mut self, buf: &mut [u8]) -> Result<Arrival, Fault>
         ensures came { IfOk result (λ arrival. FitsIn (length buf.new) arrival
             × (arrived self.new ≡ noted (arrived self.old) (incoming arrival buf.new ∷ []))) }
@@ -53,7 +53,7 @@ pub trait Connections {
         ensures dismissed { dismissed self.new ≡ dismissed self.old }
         ensures count { failures self.new ≡ failures self.old };
 
-    /// Lets the peer at a place go: as soon as that can be, it is gone, and that comes as of any other.
+    /// Lets the peer at a place go. That it is gone comes as of any other; when, no contract says.
     fn dismiss(&mut self, place: usize, why: Dismissal)
         ensures dismissed { dismissed self.new ≡ Some (record { place = place; why = why }) }
         ensures sent { (other : ℕ) → sent self.new other ≡ sent self.old other }

@@ -21,8 +21,9 @@ pub(crate) struct BlockRun {
     // What has no sweep that isn't known.
     refused: Vec<u64>,
     fitting: Fitting,
-    // How many places may be gone on from.
-    pub work: u64,
+    // How many places may be gone on from, and how many cells copies have that become a block.
+    work: u64,
+    cells: u32,
 }
 
 impl BlockRun {
@@ -36,15 +37,17 @@ impl BlockRun {
             refused: Vec::new(alloc),
             fitting: Fitting::new(alloc),
             work: 0,
+            cells: 0,
         }
     }
 
-    // No rules again, and so much work.
-    pub fn restart(&mut self, work: u64) {
+    // No rules again, and so much work; copies of so many cells at least become blocks.
+    pub fn restart(&mut self, work: u64, cells: u32) {
         self.rules.clear();
         self.sweeps.clear();
         self.refused.clear();
         self.work = work;
+        self.cells = cells;
     }
 
     // Has a script go on to the next place, where its halves are in their normal shapes.
@@ -53,7 +56,7 @@ impl BlockRun {
         if !self.use_any(t, script)? {
             walk(t, script)?;
         }
-        script.normalize()
+        script.normalize(self.cells)
     }
 
     // Uses the last rule that fits, or a new sweep; whether there is one.

@@ -81,8 +81,8 @@ impl Half {
     // A block at a place, before what stood there; at the far end, where there is no such place.
     pub fn put(&mut self, place: usize, block: Block) -> Result<(), NoMemory> {
         let index = self.blocks.len().saturating_sub(place);
-        self.touch(index);
         self.blocks.insert(index, block)?;
+        self.touch(index);
         Ok(())
     }
 
@@ -90,8 +90,9 @@ impl Half {
     pub fn take(&mut self, place: usize) -> Option<Block> {
         let index = self.blocks.len().checked_sub(place)?.checked_sub(1)?;
         if index < self.blocks.len() {
+            let block = self.blocks.remove(index);
             self.touch(index);
-            Some(self.blocks.remove(index))
+            Some(block)
         } else {
             None
         }

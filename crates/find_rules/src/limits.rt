@@ -58,11 +58,8 @@ pub(crate) const WORK_A_PLACE: u64 = 10;
 
 pub(crate) const MAX_BLOCKS: usize = 1_200;
 
-// The least copies of a word that become a block there, how many symbols these have at least, the longest word, and the most
-// symbols that are put together at once.
+// The least copies of a word that become a block there, the longest word, and the most symbols that are put together at once.
 pub(crate) const NESTED_COPIES: u32 = 3;
-
-pub(crate) const NESTED_SYMBOLS: u32 = 8;
 
 pub(crate) const NESTED_WORDS: u32 = 12;
 

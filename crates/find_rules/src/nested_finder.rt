@@ -49,10 +49,15 @@ impl NestedFinder {
         }
     }
 
-    /// Rules for a table, within so many places of a run on blocks: where the head meets a block, or the end of the tape. None
-    /// where it finds none. What it gives is still to be judged: no contract says what is found or how long it takes.
-    pub fn search(&mut self, t: &Table, places: u64) -> Result<Option<OwnedRules>, NoMemory> {
-        self.run.restart(places.saturating_mul(WORK_A_PLACE));
+    /// Rules for a table, within so many places of a run on blocks: where the head meets a block, or the end of the tape. Copies
+    /// of a word of so many cells at least become a block. None where it finds none. What it gives is still to be judged: no contract says what is found or how long it takes.
+    pub fn search(
+        &mut self,
+        t: &Table,
+        cells: u32,
+        places: u64,
+    ) -> Result<Option<OwnedRules>, NoMemory> {
+        self.run.restart(places.saturating_mul(WORK_A_PLACE), cells);
         self.main.restart(State(0), Dir::R);
         self.places.clear();
         self.rules_guessed.clear();

@@ -1,31 +1,31 @@
 // The one shape of a half tape: blocks stand as far from the head as they can, none is empty or there once, each word is no
 // repetition, and what is repeated is a block.
 use crate::block::Block;
-use crate::limits::{GATHERED, MAX_CHANGES, NESTED_COPIES, NESTED_SYMBOLS, NESTED_WORDS};
+use crate::limits::{GATHERED, MAX_CHANGES, NESTED_COPIES, NESTED_WORDS};
 use crate::script::Script;
 use crate::stop::Stop;
 use crate::word::Word;
 use machine_text::Dir;
 
 // How many blocks before those that changed are looked at again, as long as they are symbols.
-const LOOK_BACK: usize = (NESTED_COPIES * NESTED_WORDS + NESTED_SYMBOLS) as usize;
+const LOOK_BACK: usize = (NESTED_COPIES * NESTED_WORDS + 8) as usize;
 
 impl Script {
-    // Brings both halves into their normal shapes, by equations.
-    pub fn normalize(&mut self) -> Result<(), Stop> {
-        self.normalize_half(Dir::L)?;
-        self.normalize_half(Dir::R)
+    // Brings both halves into their normal shapes, by equations: copies of at least so many cells together become blocks.
+    pub fn normalize(&mut self, cells: u32) -> Result<(), Stop> {
+        self.normalize_half(Dir::L, cells)?;
+        self.normalize_half(Dir::R, cells)
     }
 
     // Blocks are counted from the far end here.
-    fn normalize_half(&mut self, side: Dir) -> Result<(), Stop> {
+    fn normalize_half(&mut self, side: Dir, cells: u32) -> Result<(), Stop> {
         let mut index = self.first_unsettled(side);
         for _ in 0..MAX_CHANGES {
             let before = index.saturating_add(1);
             let Some(place) = self.half(side).len().checked_sub(before) else {
                 break;
             };
-            index = self.normalize_block(side, index, place)?;
+            index = self.normalize_block(side, index, place, cells)?;
         }
         let half = self.half_mut(side);
         half.settled = half.len();
@@ -53,13 +53,19 @@ impl Script {
     }
 
     // One equation or none at a block, and which block is the next.
-    fn normalize_block(&mut self, side: Dir, index: usize, place: usize) -> Result<usize, Stop> {
+    fn normalize_block(
+        &mut self,
+        side: Dir,
+        index: usize,
+        place: usize,
+        cells: u32,
+    ) -> Result<usize, Stop> {
         let block = self.block(side, place).ok_or(Stop::Fails)?;
         let root = block.word.root();
         if index == 0 && !self.half(side).is_open && block.word.is_blank() {
             self.drop_blanks(side)?;
         } else if block.is_symbol() {
-            return self.gather_copies(side, index);
+            return self.gather_copies(side, index, cells);
         } else if block.times.is_never() {
             self.drop_empty(side, place)?;
             return Ok(index.saturating_sub(LOOK_BACK));
@@ -98,7 +104,7 @@ impl Script {
     }
 
     // The first repetition from a symbol on, towards the head, becomes a block; which block is the next.
-    fn gather_copies(&mut self, side: Dir, index: usize) -> Result<usize, Stop> {
+    fn gather_copies(&mut self, side: Dir, index: usize, cells: u32) -> Result<usize, Stop> {
         let seen = self.symbols_from(side, index);
         let mut last = seen.length();
         if last >= GATHERED {
@@ -107,7 +113,7 @@ impl Script {
         for start in 0..last {
             let next = index.saturating_add(start as usize);
             let rest = seen.part(start, seen.length().saturating_sub(start));
-            if let Some((word, copies)) = repetition(rest) {
+            if let Some((word, copies)) = repetition(rest, cells) {
                 self.pack_copies(side, next, word, copies)?;
                 return Ok(next);
             }
@@ -147,14 +153,14 @@ impl Script {
 }
 
 // The shortest word that symbols repeat from the first on, often enough for a block, and how often.
-fn repetition(seen: Word) -> Option<(Word, u64)> {
+fn repetition(seen: Word, cells: u32) -> Option<(Word, u64)> {
     for length in 1..=NESTED_WORDS {
         if length * NESTED_COPIES > seen.length() {
             return None;
         }
         let later = seen.part(length, seen.length().saturating_sub(length));
         let copies = (seen.agreement(later) / length).saturating_add(1);
-        if copies >= NESTED_COPIES && copies.saturating_mul(length) >= NESTED_SYMBOLS {
+        if copies >= NESTED_COPIES && copies.saturating_mul(length) >= cells {
             return Some((seen.part(0, length), u64::from(copies)));
         }
     }

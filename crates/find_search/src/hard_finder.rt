@@ -81,7 +81,9 @@ impl HardFinder {
             Stage::TranslatedCycles => self.translated.find(t, MAX_TIME)?,
             Stage::Counted => self.counted.find(t, budget)?,
             Stage::Rules { tries } => boxed_rules(self.alloc, self.rules.search_by(t, tries)?)?,
-            Stage::NestedRules { places } => boxed_rules(self.alloc, self.nested.search(t, places)?)?,
+            Stage::NestedRules { cells, places } => {
+                boxed_rules(self.alloc, self.nested.search(t, cells, places)?)?
+            }
         };
         match found {
             Some(certificate) => Decided::by(self.alloc, t, certificate),

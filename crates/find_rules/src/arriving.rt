@@ -150,7 +150,7 @@ impl Script {
     }
 
     // How many symbols stand by themselves from a place on, which are those of a word again and again.
-    fn symbols_of(&self, side: Dir, at: usize, word: Word, most: u64) -> u64 {
+    pub fn symbols_of(&self, side: Dir, at: usize, word: Word, most: u64) -> u64 {
         let mut next = 0;
         for k in 0..most {
             let Some(block) = self.block(side, at.saturating_add(k as usize)) else {
@@ -180,7 +180,7 @@ impl Script {
             return Err(Stop::Fails);
         }
         let most = wanted
-            .number
+            .number()
             .min(u64::from(LONGEST_WORD) / length)
             .max(1)
             .saturating_mul(length);

@@ -86,7 +86,7 @@ impl Script {
             self.begin_equation(side, place, b'W')?;
             self.say_word(word)?;
             let half = self.half_mut(side);
-            half.take_many(place, word.length());
+            half.take_many(place, word.length() as usize);
             half.put(place, Block::once(word))?;
         }
         Ok(())
@@ -113,6 +113,31 @@ impl Script {
                 times: block.times,
             },
         )?;
+        Ok(())
+    }
+
+    // The block at a place is rolled over by the symbol behind it, with which its word begins.
+    pub fn roll_back(&mut self, side: Dir, place: usize) -> Result<(), Stop> {
+        let block = self.block(side, place).ok_or(Stop::Fails)?;
+        let over = self
+            .block(side, place.saturating_add(1))
+            .ok_or(Stop::Fails)?;
+        let other = block.word.turned(1);
+        self.begin_equation(side, place, b'R')?;
+        self.say_word(over.word)?;
+        self.say_word(other)?;
+        self.say_word(block.word)?;
+        self.say_times(block.times)?;
+        let half = self.half_mut(side);
+        half.take_many(place, 2);
+        half.put(
+            place,
+            Block {
+                word: other,
+                times: block.times,
+            },
+        )?;
+        half.put(place, over)?;
         Ok(())
     }
 
@@ -186,7 +211,9 @@ impl Script {
         self.begin_equation(side, place, b'b')?;
         self.say_word(block.word)?;
         self.say_times(block.times)?;
-        self.half_mut(side).take_many(place, 1);
+        let half = self.half_mut(side);
+        half.take_many(place, 1);
+        half.keeps_end = false;
         Ok(())
     }
 
@@ -196,7 +223,9 @@ impl Script {
         self.begin_equation(side, place, b'B')?;
         self.say_word(block.word)?;
         self.say_times(block.times)?;
-        self.half_mut(side).put(place, block)?;
+        let half = self.half_mut(side);
+        half.put(place, block)?;
+        half.keeps_end = false;
         Ok(())
     }
 
@@ -214,7 +243,7 @@ impl Script {
             self.put_blank(side)?;
             return Ok(Sym::Zero);
         };
-        if block.times.number == 0 {
+        if block.times.number() == 0 {
             return Err(Stop::More);
         }
         if block.times != Times::ONCE {

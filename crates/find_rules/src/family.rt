@@ -128,7 +128,7 @@ impl Shapes {
                 return Ok(false);
             }
         }
-        Ok(self.shape.iter().any(|block| block.times.factor > 0))
+        Ok(self.shape.iter().any(|block| block.times.factor() > 0))
     }
 
     // Whether the blocks are those of the shape so many members later; those of the next member say how it grows.
@@ -138,9 +138,11 @@ impl Shapes {
         }
         for (block, now) in self.shape.iter_mut().zip(self.blocks.iter()) {
             if k == 1 {
-                block.times.factor = now.times.number.saturating_sub(block.times.number);
+                let number = block.times.number();
+                let factor = now.times.number().saturating_sub(number);
+                block.times = Times::growing(number, factor);
             }
-            if block.word != now.word || block.times.at(k) != now.times.number {
+            if block.word != now.word || block.times.at(k) != now.times.number() {
                 return false;
             }
         }
@@ -151,8 +153,9 @@ impl Shapes {
     pub fn room_before(&self) -> u64 {
         let mut room = u64::MAX;
         for block in self.shape.iter() {
-            if block.times.factor > 0 {
-                room = room.min(block.times.number / block.times.factor);
+            let factor = block.times.factor();
+            if factor > 0 {
+                room = room.min(block.times.number() / factor);
             }
         }
         room
@@ -164,20 +167,17 @@ impl Shapes {
         half.clear();
         for block in self.shape.iter().rev() {
             let Block { word, times } = *block;
-            let symbols = times.number.saturating_mul(u64::from(word.length()));
-            if times.factor == 0 && symbols <= u64::from(LONGEST_WORD) {
-                for _ in 0..times.number {
+            let symbols = times.number().saturating_mul(u64::from(word.length()));
+            if times.is_number() && symbols <= u64::from(LONGEST_WORD) {
+                for _ in 0..times.number() {
                     half.put_symbols(0, word)?;
                 }
                 continue;
             }
-            let before = times.factor.saturating_mul(members);
+            let before = times.factor().saturating_mul(members);
             half.push(Block {
                 word,
-                times: Times {
-                    number: times.number.saturating_sub(before),
-                    factor: times.factor,
-                },
+                times: times.minus(Times::of(before)),
             })?;
         }
         Ok(())

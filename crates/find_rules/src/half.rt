@@ -1,5 +1,5 @@
 // Half tapes of blocks.
-use crate::block::{Block, Change};
+use crate::block::{Block, Change, Times, VARIABLES, marked};
 use crate::limits::MAX_COMPARED;
 use crate::word::Word;
 use machine_text::Sym;
@@ -9,6 +9,13 @@ use std::alloc::{AllocError as NoMemory, Global};
 #[derive(Drop)]
 pub(crate) struct Half {
     blocks: Vec<Block>,
+    // Whether anything may stand beyond the last block; else there are blanks.
+    pub is_open: bool,
+    // How many of the farthest blocks stayed, and whether nothing was done at the end either, since this was set last.
+    pub kept: usize,
+    pub keeps_end: bool,
+    // So many of the farthest blocks are in their normal shape.
+    pub settled: usize,
 }
 
 impl Half {
@@ -16,11 +23,31 @@ impl Half {
     pub fn new(alloc: Global) -> Half {
         Half {
             blocks: Vec::new(alloc),
+            is_open: false,
+            kept: 0,
+            keeps_end: true,
+            settled: 0,
         }
     }
 
+    // Nothing, with blanks beyond.
     pub fn clear(&mut self) {
         self.blocks.clear();
+        self.is_open = false;
+        self.watch();
+        self.settled = 0;
+    }
+
+    // From here on it is seen how much stays.
+    pub fn watch(&mut self) {
+        self.kept = self.blocks.len();
+        self.keeps_end = true;
+    }
+
+    // Only so many of the farthest blocks stay.
+    fn touch(&mut self, left: usize) {
+        self.kept = self.kept.min(left);
+        self.settled = self.settled.min(left);
     }
 
     pub fn len(&self) -> usize {
@@ -39,10 +66,14 @@ impl Half {
     }
 
     pub fn pop(&mut self) -> Option<Block> {
+        let left = self.blocks.len().saturating_sub(1);
+        self.touch(left);
         self.blocks.pop()
     }
 
     pub fn push(&mut self, block: Block) -> Result<(), NoMemory> {
+        let left = self.blocks.len();
+        self.touch(left);
         self.blocks.push(block)?;
         Ok(())
     }
@@ -51,6 +82,7 @@ impl Half {
     pub fn put(&mut self, place: usize, block: Block) -> Result<(), NoMemory> {
         let index = self.blocks.len().saturating_sub(place);
         self.blocks.insert(index, block)?;
+        self.touch(index);
         Ok(())
     }
 
@@ -58,7 +90,9 @@ impl Half {
     pub fn take(&mut self, place: usize) -> Option<Block> {
         let index = self.blocks.len().checked_sub(place)?.checked_sub(1)?;
         if index < self.blocks.len() {
-            Some(self.blocks.remove(index))
+            let block = self.blocks.remove(index);
+            self.touch(index);
+            Some(block)
         } else {
             None
         }
@@ -74,7 +108,7 @@ impl Half {
     }
 
     // Takes so many blocks off from a place on.
-    pub fn take_many(&mut self, place: usize, count: u32) {
+    pub fn take_many(&mut self, place: usize, count: usize) {
         for _ in 0..count {
             let _ = self.take(place);
         }
@@ -82,16 +116,25 @@ impl Half {
 
     // The known symbols next to the head, so many of them at most; beyond the last block there are blanks.
     pub fn known(&self, most: u32) -> Word {
+        let word = self.known_here(most);
+        if self.blocks.iter().all(|block| block.times.is_number()) {
+            return joined(word, Word::blanks(u64::from(most)), most);
+        }
+        word
+    }
+
+    // The known symbols next to the head, so many of them at most, as far as there are blocks.
+    pub fn known_here(&self, most: u32) -> Word {
         let mut word = Word::EMPTY;
         for block in self.blocks.iter().rev() {
-            for _ in 0..block.times.number.min(u64::from(most)) {
+            for _ in 0..block.times.number().min(u64::from(most)) {
                 word = joined(word, block.word, most);
             }
-            if block.times.factor != 0 || word.length() >= most {
+            if !block.times.is_number() || word.length() >= most {
                 return word;
             }
         }
-        joined(word, Word::blanks(u64::from(most)), most)
+        word
     }
 
     // Appends its symbols with a value for the variable, the nearest first, without blanks far away.
@@ -120,6 +163,88 @@ impl Half {
             })?;
         }
         Ok(())
+    }
+
+    // Becomes the other one, with these values for the variables.
+    pub fn copy_put(&mut self, other: &Half, values: &[Times; VARIABLES]) -> Result<(), NoMemory> {
+        self.clear();
+        self.is_open = other.is_open;
+        self.append_put(other, values)
+    }
+
+    // The other one's blocks come nearest, with these values for the variables.
+    pub fn append_put(
+        &mut self,
+        other: &Half,
+        values: &[Times; VARIABLES],
+    ) -> Result<(), NoMemory> {
+        for block in other.blocks.iter() {
+            self.push(Block {
+                word: block.word,
+                times: block.times.put(values),
+            })?;
+        }
+        Ok(())
+    }
+
+    // Becomes the other one, in which blocks, the farthest first, are repeated so often; says how many are.
+    pub fn copy_filled(&mut self, other: &Half, times: &[Times]) -> Result<usize, NoMemory> {
+        self.clear();
+        self.is_open = other.is_open;
+        let mut count = 0usize;
+        for block in other.blocks.iter() {
+            let mut filled = *block;
+            if !block.is_symbol() {
+                if let Some(times) = times.get(count) {
+                    filled.times = *times;
+                }
+                count = count.saturating_add(1);
+            }
+            self.blocks.push(filled)?;
+        }
+        Ok(count)
+    }
+
+    // Takes so many of the farthest blocks off, beyond which anything may stand then.
+    pub fn open(&mut self, count: usize) {
+        self.is_open = true;
+        for _ in 0..count {
+            let last = self.blocks.len().saturating_sub(1);
+            let _ = self.take(last);
+        }
+    }
+
+    // How many of its farthest blocks, so many, are no symbols.
+    pub fn repeated(&self, most: usize) -> usize {
+        let mut count = 0usize;
+        for block in self.blocks.iter().take(most) {
+            if !block.is_symbol() {
+                count = count.saturating_add(1);
+            }
+        }
+        count
+    }
+
+    // Appends how often its blocks are repeated, the farthest first.
+    pub fn append_times(&self, out: &mut Vec<Times>) -> Result<(), NoMemory> {
+        for block in self.blocks.iter() {
+            if !block.is_symbol() {
+                out.push(block.times)?;
+            }
+        }
+        Ok(())
+    }
+
+    // A number that tells half tapes apart, whose blocks may be repeated otherwise, by what stood before it.
+    pub fn mark(&self, before: u64) -> u64 {
+        let mut mark = marked(before, u64::MAX);
+        for block in self.blocks.iter() {
+            mark = marked(mark, block.word.number());
+            if !block.is_symbol() {
+                mark = marked(mark, u64::MAX);
+            }
+        }
+        mark
     }
 
     // Each block is repeated as often as it is for the next value of the variable.

@@ -52,3 +52,43 @@ pub(crate) const MAX_CONTEXT: u32 = 24;
 pub(crate) const MAX_COPIES: u64 = 8;
 
 pub(crate) const MAX_SWEEP_STEPS: u64 = 1_000;
+
+// Of nested rules: how often a place is gone on from for each place of the run, and the most blocks of a tape.
+pub(crate) const WORK_A_PLACE: u64 = 10;
+
+pub(crate) const MAX_BLOCKS: usize = 1_200;
+
+// The least copies of a word that become a block there, the longest word, and the most symbols that are put together at once.
+pub(crate) const NESTED_COPIES: u32 = 3;
+
+pub(crate) const NESTED_WORDS: u32 = 12;
+
+pub(crate) const GATHERED: u32 = 60;
+
+// The most equations that bring a half tape into its normal shape, and the most steps between two places.
+pub(crate) const MAX_CHANGES: u64 = 20_000;
+
+pub(crate) const MAX_STRETCH: u64 = 200_000;
+
+// How many questions for a sweep that has no answer are kept in mind.
+pub(crate) const MAX_REFUSED: usize = 2_000;
+
+// How far apart three places are that are of one rule or family: next to one another among those of their shape, or each
+// second or third one.
+pub(crate) const MAX_GAP: usize = 3;
+
+// How many guesses of a family are made of one shape; how many rules are tried, and families; how often a guess is changed;
+// how many copies of a block are asked for at most, and the greatest multiples of the variables.
+pub(crate) const GUESSES: usize = 6;
+
+pub(crate) const MAX_GUESSED_RULES: usize = 3_000;
+
+pub(crate) const MAX_GUESSED_FAMILIES: usize = 400;
+
+pub(crate) const MAX_CHANGED: u64 = 40;
+
+pub(crate) const MAX_LEAST: u64 = 14;
+
+pub(crate) const MAX_RULE_SCALE: u64 = 12;
+
+pub(crate) const MAX_FAMILY_SCALE: u64 = 72;

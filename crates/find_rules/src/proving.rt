@@ -6,6 +6,7 @@ use crate::recorded_run::TapeRecord;
 use crate::script::Script;
 use crate::stop::Stop;
 use crate::sweep::{Question, Sweep, Sweeper};
+use crate::sweep_rule::rule_of_sweep;
 use crate::texts::{append_half, append_head, append_times, begin_move, opposite};
 use machine_text::{Dir, State, Sym, Table};
 use std::alloc::{AllocError as NoMemory, Global};
@@ -14,6 +15,7 @@ use text::append_number;
 // What writes a record for a family. It keeps the memory of its tapes and texts.
 #[derive(Drop)]
 pub(crate) struct Prover {
+    alloc: Global,
     sweeper: Sweeper,
     sweeps: Vec<Sweep>,
     script: Script,
@@ -33,6 +35,7 @@ impl Prover {
     // Takes no memory.
     pub fn new(alloc: Global) -> Prover {
         Prover {
+            alloc,
             sweeper: Sweeper::new(alloc),
             sweeps: Vec::new(alloc),
             script: Script::new(alloc),
@@ -62,8 +65,7 @@ impl Prover {
         self.again.clear();
         self.again.extend_from_slice(&self.script.text)?;
         self.begin(record, behind)?;
-        self.write_fields(record.state, record.side)?;
-        Ok(())
+        self.write_fields(t, record.state, record.side)
     }
 
     // Has the script lead from the family to its next member.
@@ -86,7 +88,7 @@ impl Prover {
 
     // Whether the tape is that of the next member, as far as two values of the variable tell.
     fn has_arrived(&mut self, state: State, side: Dir) -> Result<bool, NoMemory> {
-        if self.script.state != state || self.script.side != side {
+        if self.script.tape.state != state || self.script.tape.side != side {
             return Ok(false);
         }
         if self.script.half(side).len() > 0 {
@@ -107,7 +109,7 @@ impl Prover {
 
     // One step, or what has to be done before one.
     fn go_on(&mut self, t: &Table) -> Result<(), Stop> {
-        let side = self.script.side;
+        let side = self.script.tape.side;
         let Some(block) = self.script.block(side, 0) else {
             return self.script.put_blank(side);
         };
@@ -121,26 +123,26 @@ impl Prover {
         if times == Times::ONCE {
             return self.script.spell(side, 0);
         }
-        let symbols = times.number.saturating_mul(u64::from(word.length()));
-        if times.factor == 0 && symbols <= u64::from(LONGEST_WORD) {
-            return self.script.pack(side, 0, times.number);
+        let symbols = times.number().saturating_mul(u64::from(word.length()));
+        if times.is_number() && symbols <= u64::from(LONGEST_WORD) {
+            return self.script.pack(side, 0, times.number());
         }
         self.cross(t, block)
     }
 
     // Goes over the block ahead by a sweep; where there is none, a copy is taken out.
     fn cross(&mut self, t: &Table, block: Block) -> Result<(), Stop> {
-        let side = self.script.side;
+        let side = self.script.tape.side;
         let behind = self.script.half(opposite(side));
         let asked = Question {
-            state: self.script.state,
+            state: self.script.tape.state,
             side,
             word: block.word,
             context: behind.known(MAX_CONTEXT),
         };
         match self.sweeper.search(t, &asked)? {
             Some(sweep) => self.sweep(block, &sweep),
-            None if block.times.number == 0 => Err(Stop::More),
+            None if block.times.number() == 0 => Err(Stop::More),
             None => self.script.split(side, 0, Times::ONCE),
         }
     }
@@ -149,7 +151,7 @@ impl Prover {
     fn sweep(&mut self, block: Block, sweep: &Sweep) -> Result<(), Stop> {
         let rest = block.times.rest_of(sweep.copies);
         let whole = block.times.minus(rest);
-        if rest.factor != 0 {
+        if rest.factor() != 0 {
             return Err(Stop::Multiple(sweep.copies));
         }
         if whole == Times::NEVER {
@@ -228,14 +230,15 @@ impl Prover {
     }
 
     // Puts the fields of the record together.
-    fn write_fields(&mut self, state: State, side: Dir) -> Result<(), NoMemory> {
+    fn write_fields(&mut self, t: &Table, state: State, side: Dir) -> Result<(), Stop> {
         let out = &mut self.fields;
         out.clear();
         for (number, sweep) in self.sweeps.iter().enumerate() {
             if number > 0 {
                 out.push(b';')?;
             }
-            sweep.append_rule(out)?;
+            let rule = rule_of_sweep(self.alloc, t, sweep, sweep.word)?;
+            rule.append(&[], out)?;
         }
         if out.is_empty() {
             out.push(b'-')?;
@@ -251,7 +254,8 @@ impl Prover {
         out.extend_from_slice(b" 0 ")?;
         out.extend_from_slice(&self.script.text)?;
         out.extend_from_slice(b" 1a1 ")?;
-        out.extend_from_slice(&self.again)
+        out.extend_from_slice(&self.again)?;
+        Ok(())
     }
 }
 

@@ -1,5 +1,6 @@
 // A tape of blocks, and the script by which it came about.
-use crate::block::{Block, Times};
+use crate::block::{Block, Times, VARIABLES};
+use crate::form::Form;
 use crate::half::Half;
 use crate::limits::{LONGEST_MOVE, LONGEST_WORD};
 use crate::stop::Stop;
@@ -44,13 +45,10 @@ impl Stretch {
     }
 }
 
-// A tape of blocks, with blanks beyond both ends, and the script by which it came about.
+// A tape of blocks, and the script by which it came about.
 #[derive(Drop)]
 pub(crate) struct Script {
-    pub left: Half,
-    pub right: Half,
-    pub state: State,
-    pub side: Dir,
+    pub tape: Form,
     pub text: Vec<u8>,
     stretch: Stretch,
 }
@@ -59,10 +57,7 @@ impl Script {
     // The blank tape, and no moves. Takes no memory.
     pub fn new(alloc: Global) -> Script {
         Script {
-            left: Half::new(alloc),
-            right: Half::new(alloc),
-            state: State(0),
-            side: Dir::R,
+            tape: Form::new(alloc),
             text: Vec::new(alloc),
             stretch: Stretch::begin(0, 0),
         }
@@ -70,26 +65,25 @@ impl Script {
 
     // The blank tape again, in a state and with the head on a side; keeps the memory.
     pub fn restart(&mut self, state: State, side: Dir) {
-        self.left.clear();
-        self.right.clear();
-        self.state = state;
-        self.side = side;
+        self.tape.restart(state, side);
         self.text.clear();
         self.stretch = Stretch::begin(0, 0);
     }
 
+    // A form, with these values for its variables, and no moves; keeps the memory.
+    pub fn start(&mut self, form: &Form, values: &[Times; VARIABLES]) -> Result<(), Stop> {
+        self.text.clear();
+        self.stretch = Stretch::begin(0, 0);
+        self.tape.copy_put(form, values)?;
+        Ok(())
+    }
+
     pub fn half(&self, side: Dir) -> &Half {
-        match side {
-            Dir::L => &self.left,
-            Dir::R => &self.right,
-        }
+        self.tape.half(side)
     }
 
     pub fn half_mut(&mut self, side: Dir) -> &mut Half {
-        match side {
-            Dir::L => &mut self.left,
-            Dir::R => &mut self.right,
-        }
+        self.tape.half_mut(side)
     }
 
     pub fn block(&self, side: Dir, place: usize) -> Option<Block> {
@@ -99,28 +93,79 @@ impl Script {
     // One step; the symbol under the head stands by itself.
     pub fn step(&mut self, t: &Table) -> Result<(), Stop> {
         self.begin_stretch();
-        let Some(block) = self.half_mut(self.side).pop() else {
+        let Some(block) = self.half_mut(self.tape.side).pop() else {
             return Err(Stop::Fails);
         };
-        if self.state.0 >= t.states() {
+        if self.tape.state.0 >= t.states() {
             return Err(Stop::Fails);
         }
-        let Some(entry) = t.get(self.state, block.word.symbol(0)) else {
+        let Some(entry) = t.get(self.tape.state, block.word.symbol(0)) else {
             return Err(Stop::Fails);
         };
         let behind = opposite(entry.dir);
         self.half_mut(behind).push(Block::symbol(entry.write))?;
-        self.state = entry.next;
-        self.side = entry.dir;
+        self.tape.state = entry.next;
+        self.tape.side = entry.dir;
         self.stretch.steps = self.stretch.steps.saturating_add(1);
+        Ok(())
+    }
+
+    // Begins a move that uses a rule: what stands for its variables is said behind it.
+    pub fn begin_use(&mut self, letter: u8) -> Result<(), Stop> {
+        self.flush()?;
+        begin_move(&mut self.text)?;
+        self.text.push(letter)?;
+        Ok(())
+    }
+
+    // The move that uses the rule which is being proved, with these values.
+    pub fn use_itself(&mut self, values: &[Times; VARIABLES]) -> Result<(), Stop> {
+        self.begin_use(b'i')?;
+        self.say_values(values, 1)
+    }
+
+    // What stands for the variables from one on; those at the end that are 0 aren't said.
+    pub fn say_values(&mut self, values: &[Times; VARIABLES], first: usize) -> Result<(), Stop> {
+        let mut count = 0usize;
+        for (place, value) in values.iter().enumerate() {
+            if *value != Times::NEVER {
+                count = place.saturating_add(1);
+            }
+        }
+        for value in values.iter().take(count).skip(first) {
+            self.say_times(*value)?;
+        }
+        Ok(())
+    }
+
+    // What is next to the head, as much as a rule begins with, becomes what it ends with, with these values.
+    pub fn replace(
+        &mut self,
+        from: &Form,
+        to: &Form,
+        values: &[Times; VARIABLES],
+    ) -> Result<(), Stop> {
+        for side in [Dir::L, Dir::R] {
+            let half = self.half_mut(side);
+            half.keeps_end = half.keeps_end && from.half(side).is_open;
+            half.take_many(0, from.half(side).len());
+            half.append_put(to.half(side), values)?;
+        }
+        self.tape.state = to.state;
+        self.tape.side = to.side;
         Ok(())
     }
 
     // One more blank behind a half.
     pub fn put_blank(&mut self, side: Dir) -> Result<(), Stop> {
+        if self.half(side).is_open {
+            return Err(Stop::Fails);
+        }
         self.begin_stretch();
         let end = self.half(side).len();
-        self.half_mut(side).put(end, Block::once(Word::blanks(1)))?;
+        let half = self.half_mut(side);
+        half.put(end, Block::once(Word::blanks(1)))?;
+        half.keeps_end = false;
         let Stretch { left, right, .. } = &mut self.stretch;
         match side {
             Dir::L => left.count = left.count.saturating_add(1),
@@ -140,7 +185,7 @@ impl Script {
 
     fn begin_stretch(&mut self) {
         if self.stretch.is_empty() {
-            self.stretch = Stretch::begin(self.left.len(), self.right.len());
+            self.stretch = Stretch::begin(self.tape.left.len(), self.tape.right.len());
         }
     }
 

@@ -1,4 +1,5 @@
 // Sweeps: a table goes over copies of a word, and leaves each as another one.
+use crate::block::marked;
 use crate::limits::{LONGEST_WORD, MAX_COPIES, MAX_SWEEP_STEPS};
 use crate::stop::Stop;
 use crate::word::Word;
@@ -27,6 +28,14 @@ pub(crate) struct Question {
     pub side: Dir,
     pub word: Word,
     pub context: Word,
+}
+
+impl Question {
+    // A number that tells it from others.
+    pub fn mark(&self) -> u64 {
+        let head = marked(u64::from(self.state.0), self.side as u64);
+        marked(marked(head, self.word.number()), self.context.number())
+    }
 }
 
 // What looks for sweeps, by running the table on the symbols behind the head and some copies of the word.

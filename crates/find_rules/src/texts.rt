@@ -13,22 +13,14 @@ pub(crate) fn append_word(word: Word, out: &mut Vec<u8>) -> Result<(), NoMemory>
     Ok(())
 }
 
-// The symbols of a word, each by itself.
-pub(crate) fn append_symbols(word: Word, out: &mut Vec<u8>) -> Result<(), NoMemory> {
-    for k in 0..word.length() {
-        if k > 0 {
-            out.push(b'.')?;
-        }
-        out.push(digit(word.symbol(k)))?;
-    }
-    Ok(())
-}
-
 pub(crate) fn append_times(times: Times, out: &mut Vec<u8>) -> Result<(), NoMemory> {
-    append_number(times.number, out)?;
-    if times.factor != 0 {
-        out.push(b'a')?;
-        append_number(times.factor, out)?;
+    append_number(times.number(), out)?;
+    for (variable, letter) in b"abcd".iter().enumerate() {
+        let factor = times.factor_of(variable);
+        if factor != 0 {
+            out.push(*letter)?;
+            append_number(factor, out)?;
+        }
     }
     Ok(())
 }

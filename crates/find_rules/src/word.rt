@@ -117,6 +117,27 @@ impl Word {
         Some(u64::from(self.length / other.length))
     }
 
+    // With its symbols in the other order.
+    pub fn reversed(self) -> Word {
+        Word {
+            length: self.length,
+            bits: self.bits.reverse_bits() >> 64u32.saturating_sub(self.length).min(63),
+        }
+    }
+
+    // How many symbols are the same from the first on.
+    pub fn agreement(self, other: Word) -> u32 {
+        let same = (self.bits ^ other.bits).trailing_zeros();
+        same.min(self.length).min(other.length)
+    }
+
+    // A number that says which word it is.
+    pub fn number(self) -> u64 {
+        self.bits
+            .wrapping_mul(64)
+            .wrapping_add(u64::from(self.length))
+    }
+
     // Whether all its symbols are blanks.
     pub fn is_blank(self) -> bool {
         self.bits == 0

@@ -10,9 +10,10 @@ use cert::{Decided, Finder, OwnedCertificate};
 use far::{FarFinder, OwnedFar};
 use find_automata::Stage as Automata;
 use find_counted::CountedFinder;
-use find_rules::RuleFinder;
+use find_rules::{NestedFinder, RuleFinder};
 use find_words::{WORD_STAGES, WordFinder, WordStage};
 use kind_evidence::NoMemory;
+use kind_rules::OwnedRules;
 use loops::{CycleFinder, MAX_TIME, TranslatedFinder};
 use machine_text::Table;
 use run::{HaltFinder, MAX_HALT_STEPS};
@@ -32,6 +33,7 @@ pub struct HardFinder {
     translated: TranslatedFinder,
     counted: CountedFinder,
     rules: RuleFinder,
+    nested: NestedFinder,
     // whether what was found last was found behind the first stages
     was_late: bool,
 }
@@ -53,6 +55,7 @@ impl HardFinder {
             counted: CountedFinder::new(alloc, COUNTS),
             // The stages say how many tries it has.
             rules: RuleFinder::new(alloc, 0),
+            nested: NestedFinder::new(alloc),
             was_late: false,
         })
     }
@@ -77,7 +80,10 @@ impl HardFinder {
             Stage::Cycles => self.cycle.find(t, MAX_TIME)?,
             Stage::TranslatedCycles => self.translated.find(t, MAX_TIME)?,
             Stage::Counted => self.counted.find(t, budget)?,
-            Stage::Rules { tries } => self.ask_for_rules(t, tries)?,
+            Stage::Rules { tries } => boxed_rules(self.alloc, self.rules.search_by(t, tries)?)?,
+            Stage::NestedRules { cells, places } => {
+                boxed_rules(self.alloc, self.nested.search(t, cells, places)?)?
+            }
         };
         match found {
             Some(certificate) => Decided::by(self.alloc, t, certificate),
@@ -105,18 +111,6 @@ impl HardFinder {
     {
         match self.words.search_by(t, stages)? {
             Some(found) => Ok(Some(found.into_decided(self.alloc, t)?)),
-            None => Ok(None),
-        }
-    }
-
-    // What rules with induction show.
-    fn ask_for_rules(
-        &mut self,
-        t: &Table,
-        tries: u64,
-    ) -> Result<Option<OwnedCertificate>, NoMemory> {
-        match self.rules.search_by(t, tries)? {
-            Some(rules) => Ok(Some(OwnedCertificate::Rules(Box::new(self.alloc, rules)?))),
             None => Ok(None),
         }
     }
@@ -161,6 +155,16 @@ fn boxed_automata(
 ) -> Result<Option<OwnedCertificate>, NoMemory> {
     match found {
         Some(automata) => Ok(Some(OwnedCertificate::Far(Box::new(alloc, automata)?))),
+        None => Ok(None),
+    }
+}
+
+fn boxed_rules(
+    alloc: Global,
+    found: Option<OwnedRules>,
+) -> Result<Option<OwnedCertificate>, NoMemory> {
+    match found {
+        Some(rules) => Ok(Some(OwnedCertificate::Rules(Box::new(alloc, rules)?))),
         None => Ok(None),
     }
 }

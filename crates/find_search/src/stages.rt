@@ -27,6 +27,8 @@ pub(crate) enum Stage {
     Counted,
     // Rules with induction, in so many tries.
     Rules { tries: u64 },
+    // Rules with induction that use one another, in a run of so many places on blocks of so many cells at least.
+    NestedRules { cells: u32, places: u64 },
 }
 
 // Backward reasoning goes so far.
@@ -67,7 +69,7 @@ macro_rules! automata {
 pub(crate) const FIRST_STAGES: usize = 8;
 
 // The stages, in their order.
-pub(crate) const STAGES: [Stage; 20] = [
+pub(crate) const STAGES: [Stage; 22] = [
     Stage::Names,
     Stage::Loops {
         first: 50,
@@ -93,8 +95,16 @@ pub(crate) const STAGES: [Stage; 20] = [
     automata!(10, 2_000),
     automata!(15, 4_000),
     Stage::Rules { tries: 7 },
+    Stage::NestedRules {
+        cells: 4,
+        places: 4_000,
+    },
     Stage::Halting,
     Stage::Cycles,
     Stage::TranslatedCycles,
     Stage::Counted,
+    Stage::NestedRules {
+        cells: 8,
+        places: 4_000,
+    },
 ];

@@ -1,0 +1,164 @@
+// Runs on blocks, by rules, from one place to the next: where the head meets a block, or the end of the tape.
+use crate::fitting::Fitting;
+use crate::limits::{MAX_CONTEXT, MAX_REFUSED, MAX_STRETCH, MAX_SWEEP_STEPS};
+use crate::rule::Rule;
+use crate::script::Script;
+use crate::stop::Stop;
+use crate::sweep::{Question, Sweep, Sweeper};
+use crate::sweep_rule::rule_of_sweep;
+use crate::texts::opposite;
+use machine_text::Table;
+use std::alloc::Global;
+use text::append_number;
+
+// The rules that are known, and what is left of the work.
+#[derive(Drop)]
+pub(crate) struct BlockRun {
+    alloc: Global,
+    pub rules: Vec<Rule>,
+    sweeper: Sweeper,
+    sweeps: Vec<Sweep>,
+    // What has no sweep that isn't known.
+    refused: Vec<u64>,
+    fitting: Fitting,
+    // How many places may be gone on from, and how many cells copies have that become a block.
+    work: u64,
+    cells: u32,
+}
+
+impl BlockRun {
+    // No rules, and no work. Takes no memory.
+    pub fn new(alloc: Global) -> BlockRun {
+        BlockRun {
+            alloc,
+            rules: Vec::new(alloc),
+            sweeper: Sweeper::new(alloc),
+            sweeps: Vec::new(alloc),
+            refused: Vec::new(alloc),
+            fitting: Fitting::new(alloc),
+            work: 0,
+            cells: 0,
+        }
+    }
+
+    // No rules again, and so much work; copies of so many cells at least become blocks.
+    pub fn restart(&mut self, work: u64, cells: u32) {
+        self.rules.clear();
+        self.sweeps.clear();
+        self.refused.clear();
+        self.work = work;
+        self.cells = cells;
+    }
+
+    // Has a script go on to the next place, where its halves are in their normal shapes.
+    pub fn advance(&mut self, t: &Table, script: &mut Script) -> Result<(), Stop> {
+        self.work = self.work.checked_sub(1).ok_or(Stop::Fails)?;
+        if !self.use_any(t, script)? {
+            walk(t, script)?;
+        }
+        script.normalize(self.cells)
+    }
+
+    // Uses the last rule that fits, or a new sweep; whether there is one.
+    fn use_any(&mut self, t: &Table, script: &mut Script) -> Result<bool, Stop> {
+        // A rule may want a multiple, and another one may not.
+        let mut multiple = u64::MAX;
+        for number in (0..self.rules.len()).rev() {
+            match self.use_rule(number, script) {
+                Ok(true) => return Ok(true),
+                Ok(false) => {}
+                Err(Stop::Multiple(count)) => multiple = multiple.min(count),
+                Err(stop) => return Err(stop),
+            }
+        }
+        if self.finds_sweep(t, script)? {
+            let last = self.rules.len().saturating_sub(1);
+            if self.use_rule(last, script)? {
+                return Ok(true);
+            }
+        }
+        match script.block(script.tape.side, 0) {
+            Some(block) if multiple < u64::MAX && !block.times.is_number() => {
+                Err(Stop::Multiple(multiple))
+            }
+            _ => Ok(false),
+        }
+    }
+
+    // Uses a rule as often as it goes, if it fits.
+    fn use_rule(&mut self, number: usize, script: &mut Script) -> Result<bool, Stop> {
+        let Some(rule) = self.rules.get(number) else {
+            return Ok(false);
+        };
+        if !self.fitting.reads(rule, &script.tape)? {
+            return Ok(false);
+        }
+        let Some(values) = self.fitting.values()? else {
+            return Ok(false);
+        };
+        for (side, place) in self.fitting.spelled.iter() {
+            let _ = script.expose(*side, *place)?;
+        }
+        for pair in self.fitting.pairs.iter() {
+            if pair.goes_on(&values) == Some(true) {
+                script.split(pair.side, pair.place, pair.wanted.put(&values))?;
+            }
+        }
+        script.begin_use(b'u')?;
+        append_number(number as u64, &mut script.text)?;
+        script.say_values(&values, 0)?;
+        script.replace(&rule.from, &rule.to, &values)?;
+        Ok(true)
+    }
+
+    // Whether there is a sweep over the block at the head that isn't known; it becomes the last rule.
+    fn finds_sweep(&mut self, t: &Table, script: &Script) -> Result<bool, Stop> {
+        let side = script.tape.side;
+        let block = match script.block(side, 0) {
+            Some(block) if !block.is_symbol() => block,
+            _ => return Ok(false),
+        };
+        let asked = Question {
+            state: script.tape.state,
+            side,
+            word: block.word,
+            context: script.half(opposite(side)).known_here(MAX_CONTEXT),
+        };
+        let mark = asked.mark();
+        if self.refused.contains(&mark) {
+            return Ok(false);
+        }
+        self.sweeper.work = MAX_SWEEP_STEPS.saturating_add(1);
+        let Some(sweep) = self.sweeper.search(t, &asked)? else {
+            return self.refuse(mark);
+        };
+        if self.sweeps.iter().any(|other| other.is_same(&sweep)) {
+            return self.refuse(mark);
+        }
+        self.sweeps.push(sweep)?;
+        let rule = rule_of_sweep(self.alloc, t, &sweep, block.word)?;
+        self.rules.push(rule)?;
+        Ok(true)
+    }
+
+    // What was asked for has no new sweep.
+    fn refuse(&mut self, mark: u64) -> Result<bool, Stop> {
+        if self.refused.len() < MAX_REFUSED {
+            self.refused.push(mark)?;
+        }
+        Ok(false)
+    }
+}
+
+// Steps to the next place.
+fn walk(t: &Table, script: &mut Script) -> Result<(), Stop> {
+    let _ = script.expose(script.tape.side, 0)?;
+    for _ in 0..MAX_STRETCH {
+        script.step(t)?;
+        match script.block(script.tape.side, 0) {
+            Some(block) if block.is_symbol() => {}
+            _ => return Ok(()),
+        }
+    }
+    Err(Stop::Fails)
+}

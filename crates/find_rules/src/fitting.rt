@@ -1,0 +1,259 @@
+// Whether a rule fits a tape, and how often it is used then.
+use crate::block::{Block, Times, VARIABLES};
+use crate::form::Form;
+use crate::half::Half;
+use crate::rule::Rule;
+use crate::stop::Stop;
+use crate::word::Word;
+use machine_text::Dir;
+use std::alloc::{AllocError as NoMemory, Global};
+
+// A block that a rule wants, and what is there.
+#[derive(Clone, Copy, Debug, PartialEq, Eq)]
+pub(crate) struct Pair {
+    pub side: Dir,
+    pub place: usize,
+    pub wanted: Times,
+    seen: Times,
+    // Whether more may be there: the half goes on behind it.
+    may_go_on: bool,
+}
+
+impl Pair {
+    // Whether more is there than a rule takes with these values for its variables; none where there is less, or where no
+    // more may be there.
+    pub fn goes_on(&self, values: &[Times; VARIABLES]) -> Option<bool> {
+        let rest = self.seen.without(self.wanted.put(values))?;
+        if rest != Times::NEVER && !self.may_go_on {
+            return None;
+        }
+        Some(rest != Times::NEVER)
+    }
+}
+
+// A half tape block by block, from the head on. Where a symbol is asked for, the first copy of a block is read as symbols.
+#[derive(Drop)]
+struct Reading<'a> {
+    half: &'a Half,
+    place: usize,
+    spelled: Word,
+    rest: Option<Block>,
+}
+
+impl Reading<'_> {
+    fn next(&mut self) -> Option<Block> {
+        if self.spelled.length() > 0 {
+            let symbol = self.spelled.symbol(0);
+            self.spelled = self
+                .spelled
+                .part(1, self.spelled.length().saturating_sub(1));
+            return Some(Block::symbol(symbol));
+        }
+        if let Some(rest) = self.rest {
+            self.rest = None;
+            return Some(rest);
+        }
+        let block = self.half.at(self.place)?;
+        self.place = self.place.saturating_add(1);
+        Some(block)
+    }
+
+    // The first symbol of a block, the rest of which is read next.
+    fn spell(&mut self, block: Block) -> Option<Block> {
+        let rest = block.times.without(Times::ONCE)?;
+        self.spelled = block.word.part(1, block.word.length().saturating_sub(1));
+        if rest != Times::NEVER {
+            self.rest = Some(Block {
+                times: rest,
+                ..block
+            });
+        }
+        Some(Block::symbol(block.word.symbol(0)))
+    }
+
+    fn is_at_end(&self) -> bool {
+        self.spelled.length() == 0 && self.rest.is_none() && self.place >= self.half.len()
+    }
+}
+
+// What is known of a rule at a tape. It keeps the memory of its lists.
+#[derive(Drop)]
+pub(crate) struct Fitting {
+    pub pairs: Vec<Pair>,
+    // Where a copy of a block has to be spelled first.
+    pub spelled: Vec<(Dir, usize)>,
+}
+
+impl Fitting {
+    // Takes no memory.
+    pub fn new(alloc: Global) -> Fitting {
+        Fitting {
+            pairs: Vec::new(alloc),
+            spelled: Vec::new(alloc),
+        }
+    }
+
+    // Whether a tape has the words with which a rule begins.
+    pub fn reads(&mut self, rule: &Rule, tape: &Form) -> Result<bool, NoMemory> {
+        self.pairs.clear();
+        self.spelled.clear();
+        let Form { state, side, .. } = &rule.from;
+        if *state != tape.state || *side != tape.side {
+            return Ok(false);
+        }
+        Ok(
+            self.reads_half(Dir::L, &rule.from.left, &tape.left)?
+                && self.reads_half(Dir::R, &rule.from.right, &tape.right)?,
+        )
+    }
+
+    fn reads_half(&mut self, side: Dir, wanted: &Half, half: &Half) -> Result<bool, NoMemory> {
+        if half.is_open && !wanted.is_open {
+            return Ok(false);
+        }
+        let mut reading = Reading {
+            half,
+            place: 0,
+            spelled: Word::EMPTY,
+            rest: None,
+        };
+        for (place, block) in wanted.blocks().iter().rev().enumerate() {
+            let may_go_on = wanted.is_open && place.saturating_add(1) == wanted.len();
+            if !self.reads_block(&mut reading, side, place, *block, may_go_on)? {
+                return Ok(false);
+            }
+        }
+        Ok(wanted.is_open || reading.is_at_end())
+    }
+
+    fn reads_block(
+        &mut self,
+        reading: &mut Reading<'_>,
+        side: Dir,
+        place: usize,
+        wanted: Block,
+        may_go_on: bool,
+    ) -> Result<bool, NoMemory> {
+        let Some(seen) = reading.next() else {
+            return Ok(false);
+        };
+        if !wanted.is_symbol() {
+            self.pairs.push(Pair {
+                side,
+                place,
+                wanted: wanted.times,
+                seen: seen.times,
+                may_go_on,
+            })?;
+            return Ok(seen.word == wanted.word && !seen.is_symbol());
+        }
+        if seen.is_symbol() {
+            return Ok(seen == wanted);
+        }
+        if seen.word.symbol(0) != wanted.word.symbol(0) {
+            return Ok(false);
+        }
+        self.spelled.push((side, place))?;
+        Ok(reading.spell(seen).is_some())
+    }
+
+    // What stands for the rule's variables where it is used as often as it goes; none where it doesn't fit.
+    pub fn values(&self) -> Result<Option<[Times; VARIABLES]>, Stop> {
+        let Some(often) = self.times()? else {
+            return Ok(None);
+        };
+        let mut values = [often, Times::NEVER, Times::NEVER, Times::NEVER];
+        for pair in self.pairs.iter() {
+            let taken = Times::of(pair.wanted.number()).plus(often.multiple(pair.wanted.factor()));
+            let Some(rest) = pair.seen.without(taken) else {
+                return Ok(None);
+            };
+            let Some((variable, factor)) = own_variable(pair.wanted) else {
+                continue;
+            };
+            if !Times::of(rest.number()).rest_of(factor).is_never() {
+                return Ok(None);
+            }
+            let share = shared(rest, factor)?;
+            if let Some(value) = values.get_mut(variable) {
+                *value = share;
+            }
+        }
+        for pair in self.pairs.iter() {
+            if pair.goes_on(&values).is_none() {
+                return Ok(None);
+            }
+        }
+        Ok(Some(values))
+    }
+
+    // How often it may be used: as the block that is used up first allows.
+    fn times(&self) -> Result<Option<Times>, Stop> {
+        let mut least: Option<Times> = None;
+        for pair in self.pairs.iter() {
+            let factor = pair.wanted.factor();
+            if factor == 0 {
+                continue;
+            }
+            let Some(rest) = pair.seen.without(Times::of(pair.wanted.number())) else {
+                return Ok(None);
+            };
+            let whole = rest.minus(Times::of(rest.number() % factor));
+            let often = shared(whole, factor)?;
+            least = Some(match least {
+                Some(other) => lesser(other, often).ok_or(Stop::Fails)?,
+                None => often,
+            });
+        }
+        Ok(match least {
+            Some(often) if often == Times::NEVER => None,
+            Some(often) => Some(often),
+            None => Some(Times::ONCE),
+        })
+    }
+}
+
+// The variable besides the first one on which a block depends, and how often.
+fn own_variable(times: Times) -> Option<(usize, u64)> {
+    for variable in 1..VARIABLES {
+        let factor = times.factor_of(variable);
+        if factor != 0 {
+            return Some((variable, factor));
+        }
+    }
+    None
+}
+
+// The share of one of so many; where the variables aren't multiples of that, they have to be.
+pub(crate) fn shared(times: Times, count: u64) -> Result<Times, Stop> {
+    for variable in 0..VARIABLES {
+        let factor = times.factor_of(variable);
+        if count != 0 && factor % count != 0 {
+            let divisor = common_divisor(factor, count);
+            return Err(Stop::Multiple(count.checked_div(divisor).unwrap_or(count)));
+        }
+    }
+    Ok(times.share(count))
+}
+
+// The one that is at most the other for all values of the variables.
+fn lesser(a: Times, b: Times) -> Option<Times> {
+    let common = a.common(b);
+    if common == a || common == b {
+        Some(common)
+    } else {
+        None
+    }
+}
+
+// The greatest common divisor, by Euclid; 1 for none.
+pub(crate) fn common_divisor(a: u64, b: u64) -> u64 {
+    let (mut large, mut small) = (a, b);
+    for _ in 0..u64::BITS * 2 {
+        if small == 0 {
+            break;
+        }
+        (large, small) = (small, large % small);
+    }
+    large.max(1)
+}

@@ -1,0 +1,93 @@
+// The fields of a record of rules that use one another.
+use crate::block::{Times, VARIABLES};
+use crate::nested_family::NestedFamily;
+use crate::rule::{Rule, append_renumbered, mark_used};
+use crate::texts::append_times;
+use std::alloc::{AllocError as NoMemory, Global};
+
+// Writes the fields for a family: the rules that it uses, and those that these use.
+pub(crate) fn write_fields(
+    alloc: Global,
+    rules: &[Rule],
+    family: &NestedFamily,
+    out: &mut Vec<u8>,
+) -> Result<(), NoMemory> {
+    let mut used = Vec::new(alloc);
+    for _ in rules.iter() {
+        used.push(false)?;
+    }
+    mark_used(&family.begin.text, &mut used);
+    mark_used(&family.again.text, &mut used);
+    for (number, rule) in rules.iter().enumerate().rev() {
+        if used.get(number).copied().unwrap_or(false) {
+            mark_used(&rule.more, &mut used);
+        }
+    }
+    let mut numbers = Vec::new(alloc);
+    let mut count = 0u64;
+    for is_used in used.iter() {
+        numbers.push(count)?;
+        if *is_used {
+            count = count.saturating_add(1);
+        }
+    }
+    out.clear();
+    append_rules(rules, &used, &numbers, out)?;
+    append_family(family, &numbers, out)
+}
+
+// The rules that are used, with these numbers.
+fn append_rules(
+    rules: &[Rule],
+    used: &[bool],
+    numbers: &[u64],
+    out: &mut Vec<u8>,
+) -> Result<(), NoMemory> {
+    for (rule, is_used) in rules.iter().zip(used.iter()) {
+        if *is_used {
+            if !out.is_empty() {
+                out.push(b';')?;
+            }
+            rule.append(numbers, out)?;
+        }
+    }
+    if out.is_empty() {
+        out.push(b'-')?;
+    }
+    Ok(())
+}
+
+// The family, its beginning and its loop.
+fn append_family(
+    family: &NestedFamily,
+    numbers: &[u64],
+    out: &mut Vec<u8>,
+) -> Result<(), NoMemory> {
+    out.push(b' ')?;
+    family.form.append(out)?;
+    out.push(b' ')?;
+    append_values(&family.first, out)?;
+    out.push(b' ')?;
+    append_renumbered(&family.begin.text, numbers, out)?;
+    out.push(b' ')?;
+    append_values(&family.next, out)?;
+    out.push(b' ')?;
+    append_renumbered(&family.again.text, numbers, out)
+}
+
+// What stands for the variables; those at the end that are 0 aren't said.
+fn append_values(values: &[Times; VARIABLES], out: &mut Vec<u8>) -> Result<(), NoMemory> {
+    let mut count = 1usize;
+    for (place, value) in values.iter().enumerate().skip(1) {
+        if *value != Times::NEVER {
+            count = place.saturating_add(1);
+        }
+    }
+    for (place, value) in values.iter().take(count).enumerate() {
+        if place > 0 {
+            out.push(b'.')?;
+        }
+        append_times(*value, out)?;
+    }
+    Ok(())
+}

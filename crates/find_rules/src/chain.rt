@@ -11,8 +11,8 @@ use crate::stop::Stop;
 use machine_text::{Dir, Table};
 use std::alloc::{AllocError as NoMemory, Global};
 
-// What a turn does to a block: how often it was repeated, and by how much it becomes more or less. Of what has to be there
-// besides, so much is a number, and the rest may be a variable.
+// What a turn does to a block: how often it was repeated, and by how much it becomes more or less. Of what has to be
+// there besides, so much is a number, and the rest may be a variable.
 #[derive(Clone, Copy, Debug, PartialEq, Eq)]
 struct Turn {
     seen: u64,
@@ -82,8 +82,8 @@ impl Chain {
         }
     }
 
-    // Reads three places of one shape, the last of which has this tape; whether blocks change twice in the same way, and some
-    // get less.
+    // Reads three places of one shape, the last of which has this tape; whether blocks change twice in the same way,
+    // and some get less.
     pub fn read(
         &mut self,
         places: &Places,

@@ -20,8 +20,8 @@ pub(crate) struct Pair {
 }
 
 impl Pair {
-    // Whether more is there than a rule takes with these values for its variables; none where there is less, or where no
-    // more may be there.
+    // Whether more is there than a rule takes with these values for its variables; none where there is less, or where
+    // no more may be there.
     pub fn goes_on(&self, values: &[Times; VARIABLES]) -> Option<bool> {
         let rest = self.seen.without(self.wanted.put(values))?;
         if rest != Times::NEVER && !self.may_go_on {
@@ -31,7 +31,8 @@ impl Pair {
     }
 }
 
-// A half tape block by block, from the head on. Where a symbol is asked for, the first copy of a block is read as symbols.
+// A half tape block by block, from the head on. Where a symbol is asked for, the first copy of a block is read as
+// symbols.
 #[derive(Drop)]
 struct Reading<'a> {
     half: &'a Half,

@@ -1,14 +1,15 @@
 //! The search for rules with induction (kind `R`).
 //!
-//! `RuleFinder` looks at a run from the blank tape where it goes to a new cell (`recorded_run`). Tapes there, of one side and
-//! state, whose blocks grow by constants make a family (`family`, over `repeats`). From its form the run goes on over blocks
-//! (`proving`): over a block by a sweep, which is a rule with its proof by induction (`sweep`, `sweep_rule`), or else a copy
-//! is taken out of it. What is done is written down as a script (`script`, over `form`, `half`, `block` and `word`), by
-//! equations (`equations`), which at last have the tape be the family's next one (`arriving`).
+//! `RuleFinder` looks at a run from the blank tape where it goes to a new cell (`recorded_run`). Tapes there, of one
+//! side and state, whose blocks grow by constants make a family (`family`, over `repeats`). From its form the run goes
+//! on over blocks (`proving`): over a block by a sweep, which is a rule with its proof by induction (`sweep`,
+//! `sweep_rule`), or else a copy is taken out of it. What is done is written down as a script (`script`, over `form`,
+//! `half`, `block` and `word`), by equations (`equations`), which at last have the tape be the family's next one
+//! (`arriving`).
 //!
-//! `NestedFinder` runs on blocks from the blank tape on (`block_run`), by all rules that are known and fit (`rule`, `fitting`),
-//! with each half in one shape (`normal_shape`). Of what comes again (`places`) it guesses rules (`chain`) and families
-//! (`nested_family`), and proves them by such runs (`nested_record` writes what is found).
+//! `NestedFinder` runs on blocks from the blank tape on (`block_run`), by all rules that are known and fit (`rule`,
+//! `fitting`), with each half in one shape (`normal_shape`). Of what comes again (`places`) it guesses rules (`chain`)
+//! and families (`nested_family`), and proves them by such runs (`nested_record` writes what is found).
 //!
 //! Nothing is promised of what is found, nor of how long it takes: it is judged as any record is.
 #![tactic(auto)]

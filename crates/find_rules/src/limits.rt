@@ -12,8 +12,8 @@ pub(crate) const MAX_TRIES: u64 = 7;
 // After how many steps the run is looked at first; each later try goes on to four times as many.
 pub(crate) const FIRST_STEPS: u64 = 500;
 
-// The most cells of all tapes that a run keeps at its records, and how many for each step that it may take: a tape that grows
-// like a root of the steps needs fewer, one that grows with the steps soon more.
+// The most cells of all tapes that a run keeps at its records, and how many for each step that it may take: a tape that
+// grows like a root of the steps needs fewer, one that grows with the steps soon more.
 pub(crate) const MAX_KEPT_CELLS: u64 = 8_000_000;
 
 pub(crate) const CELLS_A_STEP: u64 = 16;
@@ -37,8 +37,8 @@ pub(crate) const SHORT_WORDS: usize = 12;
 
 pub(crate) const LONG_WORDS: usize = 40;
 
-// How many steps the run so far has for each move that a loop may take; and how many steps of sweeps are tried for a loop
-// for each step of the run.
+// How many steps the run so far has for each move that a loop may take; and how many steps of sweeps are tried for a
+// loop for each step of the run.
 pub(crate) const STEPS_A_MOVE: u64 = 2;
 
 pub(crate) const SWEEP_STEPS: u64 = 10;
@@ -56,9 +56,10 @@ pub(crate) const MAX_SWEEP_STEPS: u64 = 1_000;
 // Of nested rules: how often a place is gone on from for each place of the run, and the most blocks of a tape.
 pub(crate) const WORK_A_PLACE: u64 = 10;
 
-pub(crate) const MAX_BLOCKS: usize = 1_200;
+pub(crate) const MAX_BLOCKS: usize = 200;
 
-// The least copies of a word that become a block there, the longest word, and the most symbols that are put together at once.
+// The least copies of a word that become a block there, the longest word, and the most symbols that are put together at
+// once.
 pub(crate) const NESTED_COPIES: u32 = 3;
 
 pub(crate) const NESTED_WORDS: u32 = 12;
@@ -68,17 +69,17 @@ pub(crate) const GATHERED: u32 = 60;
 // The most equations that bring a half tape into its normal shape, and the most steps between two places.
 pub(crate) const MAX_CHANGES: u64 = 20_000;
 
-pub(crate) const MAX_STRETCH: u64 = 200_000;
+pub(crate) const MAX_STRETCH: u64 = 5_000;
 
 // How many questions for a sweep that has no answer are kept in mind.
 pub(crate) const MAX_REFUSED: usize = 2_000;
 
-// How far apart three places are that are of one rule or family: next to one another among those of their shape, or each
-// second or third one.
+// How far apart three places are that are of one rule or family: next to one another among those of their shape, or
+// each second or third one.
 pub(crate) const MAX_GAP: usize = 3;
 
-// How many guesses of a family are made of one shape; how many rules are tried, and families; how often a guess is changed;
-// how many copies of a block are asked for at most, and the greatest multiples of the variables.
+// How many guesses of a family are made of one shape; how many rules are tried, and families; how often a guess is
+// changed; how many copies of a block are asked for at most, and the greatest multiples of the variables.
 pub(crate) const GUESSES: usize = 6;
 
 pub(crate) const MAX_GUESSED_RULES: usize = 3_000;

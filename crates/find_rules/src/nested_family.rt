@@ -13,8 +13,8 @@ use std::alloc::{AllocError as NoMemory, Global};
 // How often a guess is changed.
 const MAX_TRIES: u64 = 9;
 
-// What is guessed of the blocks of three places: they grow by the same once more, or in the same direction, or each that
-// grows by itself.
+// What is guessed of the blocks of three places: they grow by the same once more, or in the same direction, or each
+// that grows by itself.
 #[derive(Clone, Copy, Debug, PartialEq, Eq)]
 pub(crate) enum Growth {
     BySteps,

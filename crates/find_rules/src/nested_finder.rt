@@ -15,8 +15,8 @@ use machine_text::{Dir, State, Table};
 use std::alloc::Global;
 use text::Parts;
 
-/// Searches rules with induction whose proofs use one another: it runs a table on blocks, and guesses rules and families of
-/// what comes again. It keeps the memory of its tables from call to call.
+/// Searches rules with induction whose proofs use one another: it runs a table on blocks, and guesses rules and
+/// families of what comes again. It keeps the memory of its tables from call to call.
 #[derive(Drop)]
 pub struct NestedFinder {
     alloc: Global,
@@ -49,8 +49,9 @@ impl NestedFinder {
         }
     }
 
-    /// Rules for a table, within so many places of a run on blocks: where the head meets a block, or the end of the tape. Copies
-    /// of a word of so many cells at least become a block. None where it finds none. What it gives is still to be judged: no contract says what is found or how long it takes.
+    /// Rules for a table, within so many places of a run on blocks: where the head meets a block, or the end of the
+    /// tape. Copies of a word of so many cells at least become a block. None where it finds none. What it gives is
+    /// still to be judged: no contract says what is found or how long it takes.
     pub fn search(
         &mut self,
         t: &Table,

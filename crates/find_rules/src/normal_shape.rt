@@ -1,5 +1,5 @@
-// The one shape of a half tape: blocks stand as far from the head as they can, none is empty or there once, each word is no
-// repetition, and what is repeated is a block.
+// The one shape of a half tape: blocks stand as far from the head as they can, none is empty or there once, each word
+// is no repetition, and what is repeated is a block.
 use crate::block::Block;
 use crate::limits::{GATHERED, MAX_CHANGES, NESTED_COPIES, NESTED_WORDS};
 use crate::script::Script;
@@ -11,7 +11,8 @@ use machine_text::Dir;
 const LOOK_BACK: usize = (NESTED_COPIES * NESTED_WORDS + 8) as usize;
 
 impl Script {
-    // Brings both halves into their normal shapes, by equations: copies of at least so many cells together become blocks.
+    // Brings both halves into their normal shapes, by equations: copies of at least so many cells together become
+    // blocks.
     pub fn normalize(&mut self, cells: u32) -> Result<(), Stop> {
         self.normalize_half(Dir::L, cells)?;
         self.normalize_half(Dir::R, cells)

@@ -4,8 +4,8 @@ use machine_text::Dir;
 use std::alloc::{AllocError as NoMemory, Global};
 use text::{append_number, decimal_value};
 
-// From the first form the run comes to the second one; the ends are those of the first form. Its proof by induction: the
-// scripts for 0 and for one more.
+// From the first form the run comes to the second one; the ends are those of the first form. Its proof by induction:
+// the scripts for 0 and for one more.
 #[derive(Drop)]
 pub(crate) struct Rule {
     pub from: Form,

@@ -1,4 +1,5 @@
-// The stages of a hard search: each is asked of what the ones before it leave. docs/FINDERS.md has what they were chosen by.
+// The stages of a hard search: each is asked of what the ones before it leave. docs/FINDERS.md has what they were
+// chosen by.
 use find_automata::Stage as Automata;
 use find_words::{SMALL_ROOM, WordStage, Words};
 
@@ -64,8 +65,8 @@ macro_rules! automata {
     };
 }
 
-// So many stages are the first ones: they settle nearly all tables, each in less time than a look-up among many records of
-// such tables would save.
+// So many stages are the first ones: they settle nearly all tables, each in less time than a look-up among many records
+// of such tables would save.
 pub(crate) const FIRST_STAGES: usize = 8;
 
 // The stages, in their order.

@@ -56,7 +56,7 @@ pub(crate) const MAX_SWEEP_STEPS: u64 = 1_000;
 // Of nested rules: how often a place is gone on from for each place of the run, and the most blocks of a tape.
 pub(crate) const WORK_A_PLACE: u64 = 10;
 
-pub(crate) const MAX_BLOCKS: usize = 1_200;
+pub(crate) const MAX_BLOCKS: usize = 200;
 
 // The least copies of a word that become a block there, the longest word, and the most symbols that are put together at
 // once.
@@ -69,7 +69,7 @@ pub(crate) const GATHERED: u32 = 60;
 // The most equations that bring a half tape into its normal shape, and the most steps between two places.
 pub(crate) const MAX_CHANGES: u64 = 20_000;
 
-pub(crate) const MAX_STRETCH: u64 = 200_000;
+pub(crate) const MAX_STRETCH: u64 = 5_000;
 
 // How many questions for a sweep that has no answer are kept in mind.
 pub(crate) const MAX_REFUSED: usize = 2_000;

@@ -1,4 +1,4 @@
-use Rattle.std.proofs.Common.{Some, map, ap, ◌∙◌, arith}
+use Rattle.std.proofs.Common.{Some, map, ap, ◌∙◌}
 use Rattle.law_induction.specs.Rules.{forms_of, all_forms}
 use Rattle.kind_rules.specs.declared.unpacked.ProvedRule.{ProvedRule}
 use Rattle.kind_rules.specs.Views.{rule_in, proved_in, group_in}

@@ -241,6 +241,7 @@ let move_of text =
   | 't', [ "" ] -> Turn
   | 'u', rule :: parts -> Use (nat_of rule, exponents parts)
   | 'i', "" :: parts -> let x = exponents parts in Again (x.ea, x.eb, x.ec)
+  | 'g', rule :: parts -> let x = exponents parts in Together (nat_of rule, x.ea, x.eb, x.ec)
   | 'l', what :: parts -> change Left what parts
   | 'r', what :: parts -> change Right what parts
   | _ -> Steps (number_upto 10_000 text)
@@ -257,8 +258,9 @@ let rule text =
   | _ -> raise Bad
 
 let by_rules rules family first begin_ next loop =
-  let listed = if rules = "-" then [] else List.map rule (String.split_on_char ';' rules) in
-  ByRules (listed, form family, start first, script begin_, start next, script loop)
+  let together text = List.map rule (String.split_on_char '&' text) in
+  let groups = if rules = "-" then [] else List.map together (String.split_on_char ';' rules) in
+  ByRules (groups, form family, start first, script begin_, start next, script loop)
 
 (* in how many steps runs may halt, and when they may repeat *)
 let halting = number_upto 100_000_000

@@ -86,6 +86,9 @@ def move_of(text):
         nothing, *parts = rest.split(b".")
         text_if(not nothing)
         return "use", None, [A] + exponents_of(parts, 3)
+    if first == b"g":
+        rule, *parts = rest.split(b".")
+        return "together", number_of(rule), [A] + exponents_of(parts, 3)
     if first in (b"l", b"r") and first:
         place, *parts = rest.split(b".")
         letter = place[-1:].lower()
@@ -169,13 +172,15 @@ def replaced(half, place, old, new):
 
 
 class Walk:
-    """A form on its way through a script: of a table, with rules that may be used, for ends that are open or blank."""
+    """A form on its way through a script: of a table, with rules that may be used, for ends that are open or blank; in a
+    proof by induction also the rule that is being proved, and its group."""
 
-    def __init__(self, rows, rules, ends, form, proving=None):
+    def __init__(self, rows, rules, ends, form, proving=None, group=()):
         self.rows = rows
         self.rules = rules
         self.ends = ends
         self.proving = proving
+        self.group = group
         left, self.state, self.side, right = form
         self.halves = [list(left), list(right)]
 
@@ -205,7 +210,14 @@ class Walk:
 
     def use(self, number, exponents):
         fails_unless(self.proving if number is None else number < len(self.rules))
-        ends, first, second = self.proving if number is None else self.rules[number]
+        self.apply(self.proving if number is None else self.rules[number], exponents)
+
+    def together(self, number, exponents):
+        fails_unless(0 <= number - len(self.rules) < len(self.group))
+        self.apply(self.group[number - len(self.rules)], exponents)
+
+    def apply(self, rule, exponents):
+        ends, first, second = rule
         first, second = form_by(first, exponents), form_by(second, exponents)
         fails_unless(first[1:3] == (self.state, self.side))
         for k, old, new in ((0, first[0], second[0]), (1, first[3], second[3])):
@@ -249,14 +261,16 @@ def steps_in(script):
     return sum(move[1] for move in script if move[0] == "steps")
 
 
-def prove(rows, rules, rule):
+def prove(rows, rules, group, rule):
+    """Whether a rule of a group is proved, by the rules before it and those of the group."""
     ends, first, second, scripts = rule
     if len(scripts) == 1:
+        fails_unless(len(group) == 1)
         fails_unless(Walk(rows, rules, ends, first).follow(scripts[0]) == second)
         return
-    for a, script, proving in ((NEVER, scripts[0], None), ((1, 1, 0, 0, 0), scripts[1], rule[:3])):
+    for a, script, proving, may in ((NEVER, scripts[0], None, ()), ((1, 1, 0, 0, 0), scripts[1], rule[:3], group)):
         exponents = (a,) + OTHERS
-        walk = Walk(rows, rules, ends, form_by(first, exponents), proving)
+        walk = Walk(rows, rules, ends, form_by(first, exponents), proving, may)
         fails_unless(walk.follow(script) == form_by(second, exponents))
 
 
@@ -268,15 +282,20 @@ def induction(rows, rules, family, first, begin, next_, loop):
     """The verdict on a table for which six texts are made."""
     if sum(map(len, (rules, family, first, begin, next_, loop))) + 5 > MOST_BYTES:
         raise Refused("305")
-    rules = [] if rules == b"-" else [rule_of(text, len(rows)) for text in rules.split(b";")]
+    groups = [] if rules == b"-" else rules.split(b";")
+    groups = [[rule_of(text, len(rows)) for text in group.split(b"&")] for group in groups]
     family = form_of(family, len(rows))
     first, next_ = exponents_of(first.split(b"."), 4), exponents_of(next_.split(b"."), 4)
     begin, loop = script_of(begin), script_of(loop)
     try:
-        fails_unless(sum(map(steps_in, [begin, loop] + [script for rule in rules for script in rule[3]])) <= LONGEST_TOGETHER)
-        for k, rule in enumerate(rules):
-            prove(rows, [earlier[:3] for earlier in rules[:k]], rule)
-        rules = [rule[:3] for rule in rules]
+        scripts = [script for group in groups for rule in group for script in rule[3]]
+        fails_unless(sum(map(steps_in, [begin, loop] + scripts)) <= LONGEST_TOGETHER)
+        rules = []
+        for group in groups:
+            together = [rule[:3] for rule in group]
+            for rule in group:
+                prove(rows, rules, together, rule)
+            rules = rules + together
         leads(rows, rules, begin, ([], 0, b">", []), form_by(family, first))
         leads(rows, rules, loop, family, form_by(family, next_))
         fails_unless(steps_in(loop))

@@ -66,7 +66,7 @@ def proof(script):
             steps = 0
             if kind == "turn":
                 words.append("t")
-            if kind == "use":
+            if kind in ("use", "together"):
                 number, exponents = parts
                 itself = number is None and all(times == forms.NEVER for times in exponents[1:])
                 given = "" if itself else "(" + ",".join(map(exponent, shortened(exponents))) + ")"
@@ -84,11 +84,13 @@ def lines_of(line):
     """The lines of rules and of the family, and what stands for the variables at first with how the run comes there."""
     table, _, rules, family, first, begin, next_, loop = line.split(b" ")
     states = table.count(b"_") + 1
-    rules = [] if rules == b"-" else [forms.rule_of(text, states) for text in rules.split(b";")]
+    # rules that are proved together with the one above have `&` before them
+    groups = [] if rules == b"-" else [group.split(b"&") for group in rules.split(b";")]
+    rules = [("& " if k else "", forms.rule_of(text, states)) for group in groups for k, text in enumerate(group)]
     family = forms.form_of(family, states)
     first, next_ = (forms.exponents_of(text.split(b"."), 4) for text in (first, next_))
     begin, loop = forms.script_of(begin), forms.script_of(loop)
-    told = "".join(rule_line(number, rule) for number, rule in enumerate(rules))
+    told = "".join(joined + rule_line(number, rule) for number, (joined, rule) in enumerate(rules))
     told += f"H : {tape(b'bb', family)} -> {tape(b'bb', forms.form_by(family, next_))} :{proof(loop)}\n"
     values = "".join(f" {letter}={exponent(times)}" for k, (letter, times) in enumerate(zip(VARIABLES, first))
                      if k == 0 or times != forms.NEVER)

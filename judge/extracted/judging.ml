@@ -66,6 +66,15 @@ let rec mul n0 m =
   | O -> O
   | S p -> add m (mul p m)
 
+(** val sub : nat -> nat -> nat **)
+
+let rec sub n0 m =
+  match n0 with
+  | O -> n0
+  | S k -> (match m with
+            | O -> n0
+            | S l -> sub k l)
+
 (** val max : nat -> nat -> nat **)
 
 let rec max n0 m =
@@ -119,6 +128,11 @@ module Nat =
     | S n' -> (match m with
                | O -> false
                | S m' -> leb n' m')
+
+  (** val ltb : nat -> nat -> bool **)
+
+  let ltb n0 m =
+    leb (S n0) m
 
   (** val iter : nat -> ('a1 -> 'a1) -> 'a1 -> 'a1 **)
 
@@ -835,6 +849,12 @@ let rec rev_append l l' =
   match l with
   | [] -> l'
   | a :: l0 -> rev_append l0 (a :: l')
+
+(** val concat : 'a1 list list -> 'a1 list **)
+
+let rec concat = function
+| [] -> []
+| x :: l0 -> app x (concat l0)
 
 (** val list_eq_dec : ('a1 -> 'a1 -> bool) -> 'a1 list -> 'a1 list -> bool **)
 
@@ -2135,6 +2155,7 @@ type move0 =
 | Turn
 | Use of nat * exponents
 | Again of exponent * exponent * exponent
+| Together of nat * exponent * exponent * exponent
 | Change of direction * nat * equation * bool
 
 type script = move0 list
@@ -2217,11 +2238,16 @@ let applied lo ro r x f =
 let var_a =
   { number = N0; fa = (Npos XH); fb = N0; fc = N0; fd = N0 }
 
-(** val make :
-    machine -> rule list -> rule option -> bool -> bool -> move0 -> form ->
-    form option **)
+(** val grouped : nat -> rule list -> nat -> rule option **)
 
-let make m rules proving lo ro it f =
+let grouped before0 group i =
+  if Nat.ltb i before0 then None else nth_error group (sub i before0)
+
+(** val make :
+    machine -> rule list -> rule list -> rule option -> bool -> bool -> move0
+    -> form -> form option **)
+
+let make m rules group proving lo ro it f =
   match it with
   | Steps k -> leap_N (one_step m) k f
   | Turn -> turn f
@@ -2231,6 +2257,10 @@ let make m rules proving lo ro it f =
      | None -> None)
   | Again (b, c, d) ->
     (match proving with
+     | Some r -> applied lo ro r { ea = var_a; eb = b; ec = c; ed = d } f
+     | None -> None)
+  | Together (i, b, c, d) ->
+    (match grouped (length rules) group i with
      | Some r -> applied lo ro r { ea = var_a; eb = b; ec = c; ed = d } f
      | None -> None)
   | Change (half0, place0, q, back) ->
@@ -2276,15 +2306,15 @@ let make m rules proving lo ro it f =
      | None -> None)
 
 (** val leads_to :
-    machine -> rule list -> rule option -> bool -> bool -> script -> form ->
-    form -> bool **)
+    machine -> rule list -> rule list -> rule option -> bool -> bool ->
+    script -> form -> form -> bool **)
 
-let rec leads_to m rules proving lo ro s f g =
+let rec leads_to m rules group proving lo ro s f g =
   match s with
   | [] -> if form_eq_dec f g then true else false
   | it :: s0 ->
-    (match make m rules proving lo ro it f with
-     | Some f0 -> leads_to m rules proving lo ro s0 f0 g
+    (match make m rules group proving lo ro it f with
+     | Some f0 -> leads_to m rules group proving lo ro s0 f0 g
      | None -> false)
 
 (** val none : exponent **)
@@ -2304,9 +2334,9 @@ let variables a =
 let a_and_one =
   { number = (Npos XH); fa = (Npos XH); fb = N0; fc = N0; fd = N0 }
 
-(** val is_proved : machine -> rule list -> rule -> bool **)
+(** val is_proved : machine -> rule list -> rule list -> rule -> bool **)
 
-let is_proved m rules r =
+let is_proved m rules group r =
   let lo = r.is_left_open in
   let ro = r.is_right_open in
   let (s, o) = r.scripts in
@@ -2314,18 +2344,40 @@ let is_proved m rules r =
    | Some s' ->
      let with_a = fun f a -> form_by f (variables a) in
      (&&)
-       (leads_to m rules None lo ro s (with_a r.from none)
+       (leads_to m rules [] None lo ro s (with_a r.from none)
          (with_a r.to0 none))
-       (leads_to m rules (Some r) lo ro s' (with_a r.from a_and_one)
+       (leads_to m rules group (Some r) lo ro s' (with_a r.from a_and_one)
          (with_a r.to0 a_and_one))
-   | None -> leads_to m rules None lo ro s r.from r.to0)
+   | None -> leads_to m rules [] None lo ro s r.from r.to0)
 
-(** val are_proved : machine -> rule list -> rule list -> bool **)
+(** val is_by_induction : rule -> bool **)
+
+let is_by_induction r =
+  match snd r.scripts with
+  | Some _ -> true
+  | None -> false
+
+(** val may_be_group : rule list -> bool **)
+
+let may_be_group group = match group with
+| [] -> forallb is_by_induction group
+| _ :: l ->
+  (match l with
+   | [] -> true
+   | _ :: _ -> forallb is_by_induction group)
+
+(** val is_group_proved : machine -> rule list -> rule list -> bool **)
+
+let is_group_proved m rules group =
+  (&&) (may_be_group group) (forallb (is_proved m rules group) group)
+
+(** val are_proved : machine -> rule list -> rule list list -> bool **)
 
 let rec are_proved m earlier = function
 | [] -> true
-| r :: rules0 ->
-  (&&) (is_proved m earlier r) (are_proved m (app earlier (r :: [])) rules0)
+| group :: groups0 ->
+  (&&) (is_group_proved m earlier group)
+    (are_proved m (app earlier group) groups0)
 
 (** val has_step : script -> bool **)
 
@@ -2340,17 +2392,17 @@ let blank_form =
   { left_half = []; form_state = O; side = Right; right_half = [] }
 
 (** val is_by_rules :
-    machine -> rule list -> form -> exponents -> script -> exponents ->
+    machine -> rule list list -> form -> exponents -> script -> exponents ->
     script -> bool **)
 
-let is_by_rules m rules family first begin0 next0 loop =
+let is_by_rules m groups family first begin0 next0 loop =
   (&&)
     ((&&)
-      ((&&) (are_proved m [] rules)
-        (leads_to m rules None false false begin0 blank_form
+      ((&&) (are_proved m [] groups)
+        (leads_to m (concat groups) [] None false false begin0 blank_form
           (form_by family first)))
-      (leads_to m rules None false false loop family (form_by family next0)))
-    (has_step loop)
+      (leads_to m (concat groups) [] None false false loop family
+        (form_by family next0))) (has_step loop)
 
 type certificate =
 | Halts of n * n option
@@ -2360,7 +2412,7 @@ type certificate =
 | Reduced of direction * reader list * node list
 | Closed of nat * word list * word list * local list
 | Counting of nat * automaton * automaton * item list
-| ByRules of rule list * form * exponents * script * exponents * script
+| ByRules of rule list list * form * exponents * script * exponents * script
 | Assumed
 | NoClaim
 
@@ -2615,8 +2667,8 @@ let judged assumed t0 = function
 | Closed (g, ls, rs, cs) -> never_if (is_closed (machine0 t0) g ls rs cs)
 | Counting (counts, la, ra, items) ->
   never_if (is_counted (machine0 t0) counts la ra items)
-| ByRules (rules, family, first, begin0, next0, loop) ->
-  never_if (is_by_rules (machine0 t0) rules family first begin0 next0 loop)
+| ByRules (groups, family, first, begin0, next0, loop) ->
+  never_if (is_by_rules (machine0 t0) groups family first begin0 next0 loop)
 | Assumed -> never_if (if in_dec table_eq_dec t0 assumed then true else false)
 | NoClaim -> Nothing
 

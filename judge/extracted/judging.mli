@@ -26,6 +26,8 @@ val add : nat -> nat -> nat
 
 val mul : nat -> nat -> nat
 
+val sub : nat -> nat -> nat
+
 val max : nat -> nat -> nat
 
 val min : nat -> nat -> nat
@@ -49,6 +51,8 @@ module Nat :
   val eqb : nat -> nat -> bool
 
   val leb : nat -> nat -> bool
+
+  val ltb : nat -> nat -> bool
 
   val iter : nat -> ('a1 -> 'a1) -> 'a1 -> 'a1
 
@@ -212,6 +216,8 @@ val nth_error : 'a1 list -> nat -> 'a1 option
 val removelast : 'a1 list -> 'a1 list
 
 val rev_append : 'a1 list -> 'a1 list -> 'a1 list
+
+val concat : 'a1 list list -> 'a1 list
 
 val list_eq_dec : ('a1 -> 'a1 -> bool) -> 'a1 list -> 'a1 list -> bool
 
@@ -527,6 +533,7 @@ type move0 =
 | Turn
 | Use of nat * exponents
 | Again of exponent * exponent * exponent
+| Together of nat * exponent * exponent * exponent
 | Change of direction * nat * equation * bool
 
 type script = move0 list
@@ -542,13 +549,15 @@ val applied : bool -> bool -> rule -> exponents -> form -> form option
 
 val var_a : exponent
 
+val grouped : nat -> rule list -> nat -> rule option
+
 val make :
-  machine -> rule list -> rule option -> bool -> bool -> move0 -> form ->
-  form option
+  machine -> rule list -> rule list -> rule option -> bool -> bool -> move0
+  -> form -> form option
 
 val leads_to :
-  machine -> rule list -> rule option -> bool -> bool -> script -> form ->
-  form -> bool
+  machine -> rule list -> rule list -> rule option -> bool -> bool -> script
+  -> form -> form -> bool
 
 val none : exponent
 
@@ -556,17 +565,23 @@ val variables : exponent -> exponents
 
 val a_and_one : exponent
 
-val is_proved : machine -> rule list -> rule -> bool
+val is_proved : machine -> rule list -> rule list -> rule -> bool
 
-val are_proved : machine -> rule list -> rule list -> bool
+val is_by_induction : rule -> bool
+
+val may_be_group : rule list -> bool
+
+val is_group_proved : machine -> rule list -> rule list -> bool
+
+val are_proved : machine -> rule list -> rule list list -> bool
 
 val has_step : script -> bool
 
 val blank_form : form
 
 val is_by_rules :
-  machine -> rule list -> form -> exponents -> script -> exponents -> script
-  -> bool
+  machine -> rule list list -> form -> exponents -> script -> exponents ->
+  script -> bool
 
 type certificate =
 | Halts of n * n option
@@ -576,7 +591,7 @@ type certificate =
 | Reduced of direction * reader list * node list
 | Closed of nat * word list * word list * local list
 | Counting of nat * automaton * automaton * item list
-| ByRules of rule list * form * exponents * script * exponents * script
+| ByRules of rule list list * form * exponents * script * exponents * script
 | Assumed
 | NoClaim
 

@@ -10,7 +10,7 @@ use std::alloc::Global;
 /// The words for rules with induction.
 pub(crate) fn rule_words(alloc: Global, e: &Rules) -> Result<String, NoMemory> {
     let certificate = e.unpacked(alloc)?;
-    let rules = rule_lines(alloc, &certificate.rules)?;
+    let rules = group_lines(alloc, &certificate.groups)?;
     let family = family_line(alloc, &certificate)?;
     let first = first_line(alloc, &certificate)?;
     format!(in alloc;
@@ -19,10 +19,24 @@ pub(crate) fn rule_words(alloc: Global, e: &Rules) -> Result<String, NoMemory> {
     )
 }
 
-fn rule_lines(alloc: Global, rules: &[ProvedRule]) -> Result<String, NoMemory> {
+fn group_lines(alloc: Global, groups: &[Vec<ProvedRule>]) -> Result<String, NoMemory> {
     let mut text = String::new(alloc);
-    for (number, proved) in rules.iter().enumerate() {
-        text.push_str(&rule_line(alloc, number, proved)?)?;
+    let mut before: usize = 0;
+    for group in groups {
+        text.push_str(&rule_lines(alloc, before, group)?)?;
+        before = before.saturating_add(group.len());
+    }
+    Ok(text)
+}
+
+// The rules of a group, behind so many: those that are proved together with the one above have `&` before them.
+fn rule_lines(alloc: Global, before: usize, group: &[ProvedRule]) -> Result<String, NoMemory> {
+    let mut text = String::new(alloc);
+    for (k, proved) in group.iter().enumerate() {
+        if k > 0 {
+            text.push_str("& ")?;
+        }
+        text.push_str(&rule_line(alloc, before.saturating_add(k), proved)?)?;
     }
     Ok(text)
 }

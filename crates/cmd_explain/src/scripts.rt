@@ -17,6 +17,12 @@ fn again_text(alloc: Global, b: Exponent, c: Exponent, d: Exponent) -> Result<St
     if is_never(b) && is_never(c) && is_never(d) {
         return String::from_str(alloc, " ih");
     }
+    let given = given_text(alloc, &for_same(b, c, d))?;
+    format!(in alloc; " ih{given}")
+}
+
+// The variable a for itself.
+fn for_same(b: Exponent, c: Exponent, d: Exponent) -> Exponents {
     let a = Exponent {
         ones: 0,
         a: 1,
@@ -24,8 +30,13 @@ fn again_text(alloc: Global, b: Exponent, c: Exponent, d: Exponent) -> Result<St
         c: 0,
         d: 0,
     };
-    let given = given_text(alloc, &Exponents { a, b, c, d })?;
-    format!(in alloc; " ih{given}")
+    Exponents { a, b, c, d }
+}
+
+// A rule by its number.
+fn use_text(alloc: Global, rule: u32, by: &Exponents) -> Result<String, NoMemory> {
+    let given = given_text(alloc, by)?;
+    format!(in alloc; " x{rule}{given}")
 }
 
 // What is written at a move behind so many steps.
@@ -35,8 +46,12 @@ fn move_text(alloc: Global, steps: u128, x: &Move) -> Result<String, NoMemory> {
         Move::Steps(_) | Move::Forth(..) | Move::Back(..) => Ok(String::new(alloc)),
         Move::Turn => format!(in alloc; "{before} t"),
         Move::Use(rule, by) => {
-            let given = given_text(alloc, &by)?;
-            format!(in alloc; "{before} x{rule}{given}")
+            let used = use_text(alloc, rule, &by)?;
+            format!(in alloc; "{before}{used}")
+        }
+        Move::Together(rule, b, c, d) => {
+            let used = use_text(alloc, rule, &for_same(b, c, d))?;
+            format!(in alloc; "{before}{used}")
         }
         Move::Again(b, c, d) => {
             let again = again_text(alloc, b, c, d)?;
@@ -49,7 +64,7 @@ fn move_text(alloc: Global, steps: u128, x: &Move) -> Result<String, NoMemory> {
 fn steps_behind(steps: u128, x: &Move) -> u128 {
     match *x {
         Move::Steps(more) => steps.saturating_add(u128::from(more)),
-        Move::Turn | Move::Use(..) | Move::Again(..) => 0,
+        Move::Turn | Move::Use(..) | Move::Again(..) | Move::Together(..) => 0,
         Move::Forth(..) | Move::Back(..) => steps,
     }
 }

@@ -1,4 +1,4 @@
--- No byte of automata's texts is below the comma, and the automata are made for the states that the texts are.
+-- Each byte of automata's texts is above the space, and the automata are made for the states that the texts are.
 use Rattle.std.proofs.Common.{◌≡◌, ℕ, ◌*◌, ◌^◌, ◌≤◌, ◌==◌, ◌&&◌, Bool, true, false, List, [], ◌∷◌, length, Some, None, sym, subst, refl, ap, arith}
 use Rattle.std.specs.Prelude.{nat_lt, option_map, decimal, All, if◌then◌else◌}
 use Rattle.std.specs.List.{onto_first}
@@ -19,7 +19,7 @@ use Rattle.far.specs.ListedTexts.{ListedTexts, automata_of_texts}
 use Rattle.far.proofs.WellRead.{none_some, with_first}
 
 abbrev High : ℕ → Type 0
-High byte = 44 ≤ byte
+High byte = 33 ≤ byte
 
 -- a text whose parts are high, and so is what stands between them
 onto_high : (x : ℕ) (parts : List (List ℕ)) → All IsField (onto_first x parts) → High x × All IsField parts

@@ -19,7 +19,7 @@ use Rattle.far.specs.Automata.{Automata, AreAutomata, AreSized}
 use Rattle.far.specs.Kind.{size_in, numbers_by, far_by, number_fields, far_fields, far_kind}
 use Rattle.far.specs.Texts.{AreTexts, automata_by, delta_text, rows_text, hex_text}
 use Rattle.far.specs.Tests.{are_texts}
-use Rattle.far.proofs.RoundTrip.{texts_back, same_back, bytes_from_comma}
+use Rattle.far.proofs.RoundTrip.{texts_back, same_back, bytes_above_space}
 use Rattle.far.proofs.Short.{fields_are_short}
 use Rattle.far.proofs.Tested.{texts_decide}
 
@@ -59,7 +59,7 @@ pub far_are_fields : (a : Automata) → AreAutomata a → AreSized a → AreFiel
 far_are_fields a numbers within =
     let few = within.small in
     let small : a.size < 2 ^ 64 = omega arith in
-    let high = bytes_from_comma a in
+    let high = bytes_above_space a in
     let side = side_text a.side in
     record {
       each =

@@ -71,8 +71,8 @@ weaken P Q each xs all = λ k d less. each (slice_index_or xs k d) (all k d less
 no_comma : (n : ℕ) → All (λ b. eqb b 44 ≡ false) (hex_text n)
 no_comma n = weaken (λ b. 48 ≤ b) (λ b. eqb b 44 ≡ false) (λ b above. ne_eqb b 44 (λ same. omega arith)) (hex_text n) (text_above n)
 
-from_comma : (n : ℕ) → All (λ b. 44 ≤ b) (hex_text n)
-from_comma n = weaken (λ b. 48 ≤ b) (λ b. 44 ≤ b) (λ b above. omega arith) (hex_text n) (text_above n)
+above_space : (n : ℕ) → All (λ b. 33 ≤ b) (hex_text n)
+above_space n = weaken (λ b. 48 ≤ b) (λ b. 33 ≤ b) (λ b above. omega arith) (hex_text n) (text_above n)
 
 -- rows
 parts_back : (x : ℕ) (xs : List ℕ) → parts_of 44 (rows_text (x ∷ xs)) ≡ map hex_text (x ∷ xs)
@@ -87,10 +87,10 @@ worths_back : (rows : List ℕ) → map hex_worth (map hex_text rows) ≡ rows
 worths_back [] = refl
 worths_back (x ∷ xs) = ap (λ n. n ∷ map hex_worth (map hex_text xs)) (worth_back x) ∙ ap (λ ns. x ∷ ns) (worths_back xs)
 
-rows_from_comma : (rows : List ℕ) → All (λ b. 44 ≤ b) (rows_text rows)
-rows_from_comma [] = All-nil (λ b. 44 ≤ b)
-rows_from_comma (x ∷ []) = from_comma x
-rows_from_comma (x ∷ y ∷ ys) = All-append (λ b. 44 ≤ b) (hex_text x) (44 ∷ rows_text (y ∷ ys)) (from_comma x) (All-cons (λ b. 44 ≤ b) 44 (rows_text (y ∷ ys)) (omega arith) (rows_from_comma (y ∷ ys)))
+rows_above_space : (rows : List ℕ) → All (λ b. 33 ≤ b) (rows_text rows)
+rows_above_space [] = All-nil (λ b. 33 ≤ b)
+rows_above_space (x ∷ []) = above_space x
+rows_above_space (x ∷ y ∷ ys) = All-append (λ b. 33 ≤ b) (hex_text x) (44 ∷ rows_text (y ∷ ys)) (above_space x) (All-cons (λ b. 33 ≤ b) 44 (rows_text (y ∷ ys)) (omega arith) (rows_above_space (y ∷ ys)))
 
 rows_back : (count limit : ℕ) (rows : List ℕ) → 1 ≤ count → length rows ≡ count → ((k : ℕ) → get_or rows k 0 < limit) → IsRows count limit (rows_text rows)
 rows_back count limit rows some size small =
@@ -101,9 +101,9 @@ rows_back count limit rows some size small =
     }
 
 -- delta
-delta_from_comma : (delta : List ℕ) → All (λ b. 44 ≤ b) (delta_text delta)
-delta_from_comma [] = All-nil (λ b. 44 ≤ b)
-delta_from_comma (d ∷ ds) = All-cons (λ b. 44 ≤ b) (hex_glyph d) (delta_text ds) (let high = glyph_above d in omega arith) (delta_from_comma ds)
+delta_above_space : (delta : List ℕ) → All (λ b. 33 ≤ b) (delta_text delta)
+delta_above_space [] = All-nil (λ b. 33 ≤ b)
+delta_above_space (d ∷ ds) = All-cons (λ b. 33 ≤ b) (hex_glyph d) (delta_text ds) (let high = glyph_above d in omega arith) (delta_above_space ds)
 
 pub digit_back : (size d : ℕ) → d < size → IsDigit size (hex_glyph d)
 digit_back size d small = record { form = ap hex_glyph (value_back d); small = subst (λ k. k < size) (sym (value_back d)) small }
@@ -133,8 +133,8 @@ same_back a sized some numbers =
     ∙ ap (λ r. automata a.states a.side a.size a.delta r (hex_worth (hex_text a.keep))) (ap (map hex_worth) (parts_of_rows a.rows (subst (λ n. 1 ≤ n) (sym edges) (some_rows a.size a.states sized some))) ∙ worths_back a.rows)
     ∙ ap (λ k. automata a.states a.side a.size a.delta a.rows k) (worth_back a.keep)
 
-pub bytes_from_comma : (a : Automata) → All (λ b. 44 ≤ b) (delta_text a.delta) × All (λ b. 44 ≤ b) (rows_text a.rows) × All (λ b. 44 ≤ b) (hex_text a.keep)
-bytes_from_comma a = (delta_from_comma a.delta, rows_from_comma a.rows, from_comma a.keep)
+pub bytes_above_space : (a : Automata) → All (λ b. 33 ≤ b) (delta_text a.delta) × All (λ b. 33 ≤ b) (rows_text a.rows) × All (λ b. 33 ≤ b) (hex_text a.keep)
+bytes_above_space a = (delta_above_space a.delta, rows_above_space a.rows, above_space a.keep)
 
 -- rows, one more
 pub rows_more : (rows : List ℕ) (k : ℕ) → 1 ≤ k → k < length rows → rows_text (take (k + 1) rows) ≡ rows_text (take k rows) ++ 44 ∷ hex_text (get_or rows k 0)

@@ -20,8 +20,8 @@ pub fn texts_read_back()
     ensures short { (a : Automata) → AreSized a → AreAutomata a
         → length (spaced (number_fields a)) ≤ number_byte_limit }
     ensures bytes { (a : Automata) →
-        All (λ b. 44 ≤ b) (delta_text a.delta) × All (λ b. 44 ≤ b) (rows_text a.rows)
-        × All (λ b. 44 ≤ b) (hex_text a.keep) }
+        All (λ b. 33 ≤ b) (delta_text a.delta) × All (λ b. 33 ≤ b) (rows_text a.rows)
+        × All (λ b. 33 ≤ b) (hex_text a.keep) }
 {}
 
 /// The test of three texts answers true exactly where they are those of automata.

@@ -14,7 +14,7 @@ pub length_of_side : (side : Dir) → length (side_text side) ≡ 1
 length_of_side L = refl
 length_of_side R = refl
 
--- no byte of it is below the comma
-pub side_is_high : (side : Dir) → All (λ byte. 44 ≤ byte) (side_text side)
-side_is_high L = All-cons (λ byte. 44 ≤ byte) 76 [] (omega arith) (All-nil (λ byte. 44 ≤ byte))
-side_is_high R = All-cons (λ byte. 44 ≤ byte) 82 [] (omega arith) (All-nil (λ byte. 44 ≤ byte))
+-- each byte of it is above the space
+pub side_is_high : (side : Dir) → All (λ byte. 33 ≤ byte) (side_text side)
+side_is_high L = All-cons (λ byte. 33 ≤ byte) 76 [] (omega arith) (All-nil (λ byte. 33 ≤ byte))
+side_is_high R = All-cons (λ byte. 33 ≤ byte) 82 [] (omega arith) (All-nil (λ byte. 33 ≤ byte))

@@ -23,11 +23,11 @@ texts_back t are =
 
 -- a text whose bytes are tested is a field
 high_is_field : (text : List ℕ) → are_high text ≡ true → IsField text
-high_is_field [] is = All-nil (λ b. 44 ≤ b)
+high_is_field [] is = All-nil (λ b. 33 ≤ b)
 high_is_field (b ∷ text) is =
-    let (first, rest) = and_parts (nat_le 44 b) _ is in
-    let high : 44 ≤ b = grind (arith, nat_tests, first) in
-    All-cons (λ b. 44 ≤ b) b text high (high_is_field text rest)
+    let (first, rest) = and_parts (nat_le 33 b) _ is in
+    let high : 33 ≤ b = grind (arith, nat_tests, first) in
+    All-cons (λ b. 33 ≤ b) b text high (high_is_field text rest)
 
 all_are_high : (t : RuleTexts) → IsTrue (is_some (given_by t)) → all_high t ≡ true
 unfolding given_by

@@ -6,7 +6,7 @@ use Rattle.text.specs.Parts.{parts_of}
 use Rattle.law_induction.specs.Equations.{◌>>=◌}
 use Rattle.law_induction.specs.Rules.{Certificate, is_certificate}
 use Rattle.kind_rules.specs.Limits.{rules_byte_limit}
-use Rattle.kind_rules.specs.Texts.{form_from, four_from, script_from, rules_from}
+use Rattle.kind_rules.specs.Texts.{form_from, four_from, script_from, groups_from}
 
 -- how many states the tables have for which it is made, and the texts of the rules, of the family, of its exponents at
 -- first, of the script that leads there, of the exponents that come next, and of the script that leads to those
@@ -39,10 +39,10 @@ texts_in states rules family first begin next text = rule_texts states (take rul
     (take next (drop begin (drop first (drop family (drop rules text)))))
     (drop next (drop begin (drop first (drop family (drop rules text)))))
 
--- no byte is below the comma: so there is neither a space nor a newline
+-- each byte is above the space: so there is neither a space nor a newline
 abbrev pub are_high : List ℕ → Bool
 are_high [] = true
-are_high (b ∷ text) = nat_le 44 b && are_high text
+are_high (b ∷ text) = nat_le 33 b && are_high text
 
 unfoldable pub all_high : RuleTexts → Bool
 all_high t =
@@ -53,10 +53,10 @@ all_high t =
 -- the certificate that the texts give
 unfoldable pub certificate_in : RuleTexts → Option Certificate
 certificate_in t =
-    rules_from t.states t.rules >>= λ rules. form_from t.states t.family >>= λ family.
+    groups_from t.states t.rules >>= λ groups. form_from t.states t.family >>= λ family.
     four_from (parts_of 46 t.first) >>= λ first. script_from t.begin >>= λ begin.
     four_from (parts_of 46 t.next) >>= λ next. script_from t.loop >>= λ loop.
-    Some (record { rules = rules; family = family; first = first; begin = begin; next = next; loop = loop })
+    Some (record { groups = groups; family = family; first = first; begin = begin; next = next; loop = loop })
 
 -- where they are those of a record
 unfoldable pub given_by : RuleTexts → Option Certificate

@@ -1,5 +1,5 @@
--- How words, exponents, forms, moves and rules are written. Bytes are their ASCII codes: 44 is the comma, 46 the dot,
--- 58 the colon, 59 the semicolon, 94 `^`.
+-- How words, exponents, forms, moves and rules are written. Bytes are their ASCII codes: 38 is `&`, 44 the comma, 46 the
+-- dot, 58 the colon, 59 the semicolon, 94 `^`.
 use Rattle.std.specs.Prelude.{ℕ, ◌+◌, ◌-◌, ◌*◌, ◌==◌, ◌&&◌, nat_lt, nat_le, if◌then◌else◌, Bool, true, false, List, [], ◌∷◌, Option, Some, None, length, take, drop, slice_index, position, codes}
 use Rattle.std.specs.Str.{bytes_eq}
 use Rattle.machine_text.specs.declared.transition.Dir.{Dir}
@@ -12,7 +12,7 @@ use Rattle.law_induction.specs.declared.block.Block.{Block}
 use Rattle.law_induction.specs.declared.equation.Equation.{Equation}
 use Rattle.law_induction.specs.declared.equation.Equation.TheVariants.{Split, Spell, Roll, Power, Empty, Blank}
 use Rattle.law_induction.specs.declared.moves.Move.{Move}
-use Rattle.law_induction.specs.declared.moves.Move.TheVariants.{Steps, Turn, Use, Again, Forth, Back}
+use Rattle.law_induction.specs.declared.moves.Move.TheVariants.{Steps, Turn, Use, Again, Together, Forth, Back}
 use Rattle.law_induction.specs.Words.{exponent_limit, times_with, times_eq, never_once, one_time, block_of}
 use Rattle.law_induction.specs.Forms.{Form, form_with, RuleForm}
 use Rattle.law_induction.specs.Equations.{◌>>=◌}
@@ -120,7 +120,8 @@ four_from parts =
     next_times (parts_behind (parts_behind (parts_behind parts))) >>= λ d.
     if_none (parts_behind (parts_behind (parts_behind (parts_behind parts)))) (record { a = a; b = b; c = c; d = d })
 
--- the use of a rule: its number and the exponents; and of the rule that is being proved, with exponents for b, c and d
+-- the use of a rule: its number and the exponents; of the rule that is being proved, with exponents for b, c and d; and of
+-- one that is proved together with it: its number and these
 abbrev pub use_from : List (List ℕ) → Option Move
 use_from [] = None
 use_from (rule ∷ parts) = number_from rule >>= λ k. four_from parts >>= λ by. Some (Use k by)
@@ -133,6 +134,13 @@ again_from (nothing ∷ parts) =
     next_times (parts_behind (parts_behind parts)) >>= λ d.
     if_none (parts_behind (parts_behind (parts_behind parts))) (Again b c d))
     else None
+
+abbrev pub together_from : List (List ℕ) → Option Move
+together_from [] = None
+together_from (rule ∷ parts) =
+    number_from rule >>= λ k. next_times parts >>= λ b. next_times (parts_behind parts) >>= λ c.
+    next_times (parts_behind (parts_behind parts)) >>= λ d.
+    if_none (parts_behind (parts_behind (parts_behind parts))) (Together k b c d)
 
 -- equations, by their small letters: 115 is `s`, 119 `w`, 114 `r`, 112 `p`, 101 `e`, 98 `b`
 abbrev pub split_from : List (List ℕ) → Option Equation
@@ -187,12 +195,13 @@ change_from side (place ∷ parts) =
     else (number_from (take (length place - 1) place) >>= λ at.
     change_by side at (slice_index place (length place - 1)) parts)
 
--- a move, by its first byte: 116 is `t`, 117 `u`, 105 `i`, 108 `l`, 114 `r`; else it is a number of steps
+-- a move, by its first byte: 116 is `t`, 117 `u`, 105 `i`, 103 `g`, 108 `l`, 114 `r`; else it is a number of steps
 unfoldable pub move_by : ℕ → List ℕ → List ℕ → Option Move
 move_by letter rest text =
     if letter == 116 then (if length rest == 0 then Some Turn else None)
     else if letter == 117 then use_from (parts_of 46 rest)
     else if letter == 105 then again_from (parts_of 46 rest)
+    else if letter == 103 then together_from (parts_of 46 rest)
     else if letter == 108 then change_from L (parts_of 46 rest)
     else if letter == 114 then change_from R (parts_of 46 rest)
     else (number_from text >>= λ n. Some (Steps n))
@@ -250,7 +259,16 @@ rules_of_parts states [] = Some []
 rules_of_parts states (part ∷ parts) =
     rule_from states part >>= λ rule. rules_of_parts states parts >>= λ rules. Some (rule ∷ rules)
 
--- rules: with semicolons between them; `-` for none
-unfoldable pub rules_from : ℕ → List ℕ → Option (List Proved)
-rules_from states text =
-    if bytes_eq text (codes "-") then Some [] else rules_of_parts states (parts_of 59 text)
+-- rules that are proved together, with `&` between them
+unfoldable pub group_from : ℕ → List ℕ → Option (List Proved)
+group_from states text = rules_of_parts states (parts_of 38 text)
+
+abbrev pub groups_of_parts : ℕ → List (List ℕ) → Option (List (List Proved))
+groups_of_parts states [] = Some []
+groups_of_parts states (part ∷ parts) =
+    group_from states part >>= λ group. groups_of_parts states parts >>= λ groups. Some (group ∷ groups)
+
+-- groups, with semicolons between them; `-` for none
+unfoldable pub groups_from : ℕ → List ℕ → Option (List (List Proved))
+groups_from states text =
+    if bytes_eq text (codes "-") then Some [] else groups_of_parts states (parts_of 59 text)

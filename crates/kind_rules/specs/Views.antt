@@ -1,5 +1,6 @@
 -- What the structs of the code say.
-use Rattle.std.specs.Prelude.{map, option_map}
+use Rattle.std.specs.Prelude.{List, map, option_map}
+use Rattle.std.specs.Global.{Vec}
 use Rattle.machine_text.specs.Packed.{entry_of}
 use Rattle.kind_rules.specs.declared.form.Form.{Form as FormIn}
 use Rattle.kind_rules.specs.declared.form.Rule.{Rule}
@@ -13,7 +14,7 @@ use Rattle.kind_rules.specs.declared.rule_text.OpenEnds.{OpenEnds}
 use Rattle.law_induction.specs.Forms.{Form, form_with, RuleForm}
 use Rattle.law_induction.specs.Equations.{Sides, sides_of}
 use Rattle.law_induction.specs.Scripts.{Setting}
-use Rattle.law_induction.specs.Rules.{Proved, Certificate, forms_of}
+use Rattle.law_induction.specs.Rules.{Proved, Certificate, forms_of, all_forms}
 use Rattle.kind_rules.specs.Texts.{Factored, RuleEnds}
 
 abbrev pub form_in : FormIn → Form
@@ -31,9 +32,12 @@ sides_in s = sides_of s.before.items s.after.items
 abbrev pub proved_in : ProvedRule → Proved
 proved_in p = record { rule = rule_in p.rule; base = option_map (λ v. v.items) p.base; script = p.script.items }
 
+abbrev pub group_in : Vec ProvedRule → List Proved
+group_in v = map proved_in v.items
+
 abbrev pub certificate_of : Unpacked → Certificate
 certificate_of c = record {
-  rules = map proved_in c.rules.items;
+  groups = map group_in c.groups.items;
   family = form_in c.family;
   first = c.first;
   begin = c.begin.items;
@@ -44,7 +48,8 @@ certificate_of c = record {
 abbrev pub setting_in : SettingIn → Setting
 setting_in s = record {
   machine = entry_of s.table.now;
-  rules = forms_of (map proved_in s.rules.now);
+  rules = all_forms (map group_in s.groups.now);
+  group = forms_of (map proved_in s.group.now);
   again = option_map (λ r. rule_in r.now) s.again;
   open_left = s.open_left;
   open_right = s.open_right;

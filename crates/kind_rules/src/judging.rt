@@ -3,9 +3,9 @@ ghost use Rattle.std.specs.Prelude.{◌≡◌, ◌+◌, ◌<◌, [], Some, map, 
 ghost use Rattle.machine_text.specs.Packed.{entry_of};
 ghost use Rattle.law_induction.specs.Scripts.{has_step, move_steps, steps_in};
 ghost use Rattle.law_induction.specs.Words.{all_steps_limit};
-ghost use Rattle.law_induction.specs.Rules.{all_steps, base_steps, steps_of_all, script_leads, leads_from, leads_by, form_by, forms_of, with_a, blank_form, is_proved_by, are_proved, is_certificate};
+ghost use Rattle.law_induction.specs.Rules.{all_steps, base_steps, steps_of_all, steps_of_groups, script_leads, leads_from, leads_by, form_by, forms_of, all_forms, with_a, blank_form, is_proved_by, each_proved, by_induction, may_be_group, is_group_proved, are_proved, is_certificate};
 ghost use Rattle.kind_rules.specs.Answers.{Meets};
-ghost use Rattle.kind_rules.specs.Views.{form_in, rule_in, proved_in, setting_in, certificate_of};
+ghost use Rattle.kind_rules.specs.Views.{form_in, rule_in, proved_in, group_in, setting_in, certificate_of};
 
 use crate::form::{Form, Rule};
 use crate::limits::MAX_ALL_STEPS;
@@ -82,21 +82,24 @@ fn with_a(a: Exponent) -> Exponents
     }
 }
 
-// Whether a rule is proved by those before it.
+// Whether a rule of a group is proved.
 #[tactic(auto, unfolding(law_induction::specs::Rules::is_proved_by))]
 fn check_rule(
     alloc: Global,
     t: &Table,
-    before: &[ProvedRule],
+    before: &[Vec<ProvedRule>],
+    group: &[ProvedRule],
     proved: &ProvedRule,
 ) -> Result<(), Stop>
-    ensures { Meets (is_proved_by (entry_of t.now) (forms_of (map proved_in before.now))
-        (proved_in proved.now).rule (proved_in proved.now).base (proved_in proved.now).script) result }
+    ensures { Meets (is_proved_by (entry_of t.now) (all_forms (map group_in before.now))
+        (forms_of (map proved_in group.now)) (proved_in proved.now).rule (proved_in proved.now).base
+        (proved_in proved.now).script) result }
 {
     let rule = &proved.rule;
     let s = Setting {
         table: t,
-        rules: before,
+        groups: before,
+        group: &[],
         again: None,
         open_left: rule.open_left,
         open_right: rule.open_right,
@@ -124,7 +127,8 @@ fn check_rule(
             };
             let s = Setting {
                 table: t,
-                rules: before,
+                groups: before,
+                group,
                 again: Some(rule),
                 open_left: rule.open_left,
                 open_right: rule.open_right,
@@ -134,13 +138,66 @@ fn check_rule(
     }
 }
 
-// Whether all rules are proved.
-#[tactic(auto, unfolding(law_induction::specs::Rules::are_proved))]
-fn check_rules(alloc: Global, t: &Table, rules: &[ProvedRule]) -> Result<(), Stop>
-    ensures { Meets (are_proved (entry_of t.now) [] (map proved_in rules.now)) result }
+// Whether each rule of a group is.
+#[tactic(auto, unfolding(law_induction::specs::Rules::each_proved))]
+fn check_each(
+    alloc: Global,
+    t: &Table,
+    before: &[Vec<ProvedRule>],
+    group: &[ProvedRule],
+) -> Result<(), Stop>
+    ensures { Meets (each_proved (entry_of t.now) (all_forms (map group_in before.now))
+        (forms_of (map proved_in group.now)) (map proved_in group.now)) result }
 {
-    for k in 0..rules.len() {
-        check_rule(alloc, t, &rules[..k], &rules[k])?;
+    for proved in group {
+        check_rule(alloc, t, before, group, proved)?;
+    }
+    Ok(())
+}
+
+// Whether each has a proof by induction.
+fn by_induction(group: &[ProvedRule]) -> bool
+    ensures { result ≡ by_induction (map proved_in group.now) }
+{
+    for proved in group {
+        if proved.base.is_none() {
+            return false;
+        }
+    }
+    true
+}
+
+// Whether rules may be proved together: if they are more than one, each by induction.
+fn may_be_group(group: &[ProvedRule]) -> bool
+    ensures { result ≡ may_be_group (map proved_in group.now) }
+{
+    group.len() == 1 || by_induction(group)
+}
+
+// Whether the rules of a group are proved by those before it.
+#[tactic(auto, unfolding(law_induction::specs::Rules::is_group_proved))]
+fn check_group(
+    alloc: Global,
+    t: &Table,
+    before: &[Vec<ProvedRule>],
+    group: &[ProvedRule],
+) -> Result<(), Stop>
+    ensures { Meets (is_group_proved (entry_of t.now) (all_forms (map group_in before.now))
+        (map proved_in group.now)) result }
+{
+    if !may_be_group(group) {
+        return Err(Stop::Fails);
+    }
+    check_each(alloc, t, before, group)
+}
+
+// Whether all groups are proved.
+#[tactic(auto, unfolding(law_induction::specs::Rules::are_proved))]
+fn check_groups(alloc: Global, t: &Table, groups: &[Vec<ProvedRule>]) -> Result<(), Stop>
+    ensures { Meets (are_proved (entry_of t.now) [] (map group_in groups.now)) result }
+{
+    for k in 0..groups.len() {
+        check_group(alloc, t, &groups[..k], &groups[k])?;
     }
     Ok(())
 }
@@ -166,7 +223,12 @@ fn steps_of(x: Move) -> u32
 {
     match x {
         Move::Steps(n) => n,
-        Move::Turn | Move::Use(..) | Move::Again(..) | Move::Forth(..) | Move::Back(..) => 0,
+        Move::Turn
+        | Move::Use(..)
+        | Move::Again(..)
+        | Move::Together(..)
+        | Move::Forth(..)
+        | Move::Back(..) => 0,
     }
 }
 
@@ -195,7 +257,7 @@ fn left_behind_rule(proved: &ProvedRule, most: u32) -> Option<u32>
     left_behind(&proved.script, left)
 }
 
-// And behind those of all rules.
+// And behind those of a group.
 fn left_behind_all(rules: &[ProvedRule], most: u32) -> Option<u32>
     ensures some { IfSome result (λ left. left + steps_of_all (map proved_in rules.now) ≡ most) }
     ensures none { IfNone result (most < steps_of_all (map proved_in rules.now)) }
@@ -203,6 +265,18 @@ fn left_behind_all(rules: &[ProvedRule], most: u32) -> Option<u32>
     let mut left = most;
     for proved in rules {
         left = left_behind_rule(proved, left)?;
+    }
+    Some(left)
+}
+
+// And behind those of all groups.
+fn left_behind_groups(groups: &[Vec<ProvedRule>], most: u32) -> Option<u32>
+    ensures some { IfSome result (λ left. left + steps_of_groups (map group_in groups.now) ≡ most) }
+    ensures none { IfNone result (most < steps_of_groups (map group_in groups.now)) }
+{
+    let mut left = most;
+    for group in groups {
+        left = left_behind_all(group, left)?;
     }
     Some(left)
 }
@@ -238,7 +312,7 @@ impl Unpacked {
     fn steps_left(&self) -> Option<u32>
         ensures { is_some result ≡ nat_le (all_steps (certificate_of self.now)) all_steps_limit }
     {
-        let left = left_behind_all(&self.rules, MAX_ALL_STEPS)?;
+        let left = left_behind_groups(&self.groups, MAX_ALL_STEPS)?;
         let left = left_behind(&self.begin, left)?;
         left_behind(&self.again, left)
     }
@@ -251,10 +325,11 @@ impl Unpacked {
         if self.steps_left().is_none() {
             return Err(Stop::Fails);
         }
-        check_rules(alloc, t, &self.rules)?;
+        check_groups(alloc, t, &self.groups)?;
         let s = Setting {
             table: t,
-            rules: &self.rules,
+            groups: &self.groups,
+            group: &[],
             again: None,
             open_left: false,
             open_right: false,

@@ -5,6 +5,7 @@
 
 mod form;
 mod form_text;
+mod group_text;
 mod judging;
 mod laws;
 mod limits;

@@ -1,7 +1,7 @@
 // The texts of moves and scripts.
 ghost use Rattle.std.specs.Prelude.{◌≡◌, ◌-◌, [], Some, None, IfOk, is_some, length, option_map};
 ghost use Rattle.text.specs.Parts.{parts_of};
-ghost use Rattle.kind_rules.specs.Texts.{if_none, use_from, again_from, split_from, spell_from, roll_from, power_from, empty_from, blank_from, equation_from, is_capital, change_by, change_from, move_by, move_named, moves_from, script_from};
+ghost use Rattle.kind_rules.specs.Texts.{if_none, use_from, again_from, together_from, split_from, spell_from, roll_from, power_from, empty_from, blank_from, equation_from, is_capital, change_by, change_from, move_by, move_named, moves_from, script_from};
 
 use crate::number_text::{four_from, next_times, number_from, times_from, word_from};
 use law_induction::{Equation, Move};
@@ -32,6 +32,20 @@ fn again_from(mut parts: Parts<'_>) -> Option<Move>
         return None;
     }
     Some(Move::Again(b, c, d))
+}
+
+// The use of a rule that is proved together with it.
+fn together_from(mut parts: Parts<'_>) -> Option<Move>
+    ensures { result ≡ together_from parts.entry }
+{
+    let rule = number_from(parts.next()?)?;
+    let b = next_times(&mut parts)?;
+    let c = next_times(&mut parts)?;
+    let d = next_times(&mut parts)?;
+    if parts.next().is_some() {
+        return None;
+    }
+    Some(Move::Together(rule, b, c, d))
 }
 
 // Nothing stands behind an equation.
@@ -150,6 +164,7 @@ fn move_by(letter: u8, rest: &[u8], text: &[u8]) -> Option<Move>
         },
         b'u' => use_from(Parts::of(b'.', rest)),
         b'i' => again_from(Parts::of(b'.', rest)),
+        b'g' => together_from(Parts::of(b'.', rest)),
         b'l' => change_from(Dir::L, Parts::of(b'.', rest)),
         b'r' => change_from(Dir::R, Parts::of(b'.', rest)),
         _ => {

@@ -1,8 +1,8 @@
 // The texts of rules.
-ghost use Rattle.std.specs.Prelude.{◌≡◌, ◌∷◌, [], Some, None, IfOk, is_some, map, option_map};
+ghost use Rattle.std.specs.Prelude.{◌≡◌, ◌∷◌, [], IfOk, is_some, option_map};
 ghost use Rattle.text.specs.Parts.{parts_of};
 ghost use Rattle.law_induction.specs.Forms.{RuleForm};
-ghost use Rattle.kind_rules.specs.Texts.{end_from, ends_from, rule_form_from, proved_from, rule_of_parts, rule_from, rules_of_parts, rules_from};
+ghost use Rattle.kind_rules.specs.Texts.{end_from, ends_from, rule_form_from, proved_from, rule_of_parts, rule_from};
 ghost use Rattle.kind_rules.specs.Views.{ends_of, rule_in, proved_in};
 
 use crate::form::Rule;
@@ -162,7 +162,7 @@ fn read_induction(
 
 // Whether a text is that of a rule with its proof.
 #[tactic(auto, unfolding(crate::specs::Texts::rule_from))]
-fn is_rule(states: u8, text: &[u8]) -> bool
+pub(crate) fn is_rule(states: u8, text: &[u8]) -> bool
     ensures { result ≡ is_some (rule_from states text.now) }
 {
     let mut parts = Parts::of(b':', text);
@@ -183,7 +183,11 @@ fn is_rule(states: u8, text: &[u8]) -> bool
 
 // The rule with its proof that a text is.
 #[tactic(auto, unfolding(crate::specs::Texts::rule_from))]
-fn read_rule(alloc: Global, states: u8, text: &[u8]) -> Result<Option<ProvedRule>, NoMemory>
+pub(crate) fn read_rule(
+    alloc: Global,
+    states: u8,
+    text: &[u8],
+) -> Result<Option<ProvedRule>, NoMemory>
     ensures { IfOk result (λ proved. option_map proved_in proved ≡ rule_from states text.now) }
 {
     let mut parts = Parts::of(b':', text);
@@ -200,60 +204,4 @@ fn read_rule(alloc: Global, states: u8, text: &[u8]) -> Result<Option<ProvedRule
         return Ok(None);
     };
     read_proved(alloc, rule, parts)
-}
-
-// Whether parts are rules.
-fn are_rule_parts(states: u8, mut parts: Parts<'_>) -> bool
-    ensures { result ≡ is_some (rules_of_parts states parts.entry) }
-{
-    'parts: while let Some(part) = parts.next() {
-        if !is_rule(states, part) {
-            return false;
-        }
-    }
-    true
-}
-
-// The rules that parts are.
-fn read_rule_parts(
-    alloc: Global,
-    states: u8,
-    mut parts: Parts<'_>,
-) -> Result<Option<Vec<ProvedRule>>, NoMemory>
-    ensures { IfOk result (λ rules. option_map (λ l. map proved_in l.items) rules ≡ rules_of_parts states parts.entry) }
-{
-    let mut rules = Vec::new(alloc);
-    'parts: while let Some(part) = parts.next() {
-        match read_rule(alloc, states, part)? {
-            Some(rule) => rules.push(rule)?,
-            None => return Ok(None),
-        }
-    }
-    Ok(Some(rules))
-}
-
-// Whether a text is that of rules.
-#[tactic(auto, unfolding(crate::specs::Texts::rules_from))]
-pub(crate) fn are_rules(states: u8, text: &[u8]) -> bool
-    ensures { result ≡ is_some (rules_from states text.now) }
-{
-    if text == b"-".as_slice() {
-        return true;
-    }
-    are_rule_parts(states, Parts::of(b';', text))
-}
-
-// The rules that a text is.
-#[tactic(auto, unfolding(crate::specs::Texts::rules_from))]
-pub(crate) fn read_rules(
-    alloc: Global,
-    states: u8,
-    text: &[u8],
-) -> Result<Option<Vec<ProvedRule>>, NoMemory>
-    ensures { IfOk result (λ rules. option_map (λ l. map proved_in l.items) rules ≡ rules_from states text.now) }
-{
-    if text == b"-".as_slice() {
-        return Ok(Some(Vec::new(alloc)));
-    }
-    read_rule_parts(alloc, states, Parts::of(b';', text))
 }

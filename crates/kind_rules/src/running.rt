@@ -1,10 +1,10 @@
 // Scripts, move by move.
-ghost use Rattle.std.specs.Prelude.{◌≡◌, ◌&&◌, nat_le, length, map, option_map};
-ghost use Rattle.law_induction.specs.Scripts.{rule_at, done, done_within, all_done};
+ghost use Rattle.std.specs.Prelude.{◌≡◌, ◌+◌, ◌&&◌, Some, IfOk, IfErr, nat_le, length, map, option_map};
+ghost use Rattle.law_induction.specs.Scripts.{rule_at, grouped_at, again_by, done, done_within, all_done};
 ghost use Rattle.law_induction.specs.Words.{half_block_limit};
-ghost use Rattle.law_induction.specs.Rules.{forms_of};
+ghost use Rattle.law_induction.specs.Rules.{all_forms};
 ghost use Rattle.kind_rules.specs.Answers.{Yields};
-ghost use Rattle.kind_rules.specs.Views.{form_in, rule_in, proved_in, setting_in};
+ghost use Rattle.kind_rules.specs.Views.{form_in, rule_in, group_in, setting_in};
 
 use crate::form::{Form, Rule};
 use crate::limits::{MAX_BLOCKS, MAX_STEPS};
@@ -16,18 +16,54 @@ use law_induction::{Equation, Exponent, Exponents, Move};
 use machine_text::Dir;
 use std::alloc::Global;
 
-// A rule by its number.
-fn earlier<'r>(rules: &'r [ProvedRule], k: u32) -> Option<&'r Rule>
-    ensures { rule_at (forms_of (map proved_in rules.now)) k ≡ option_map (λ r. rule_in r.now) result }
+// A rule by its number; where they are fewer, its number behind them.
+fn earlier<'r>(groups: &'r [Vec<ProvedRule>], k: u32) -> Result<&'r Rule, usize>
+    ensures found { IfOk result (λ r. rule_at (all_forms (map group_in groups.now)) k ≡ Some (rule_in r.now)) }
+    ensures behind { IfErr result (λ rest. length (all_forms (map group_in groups.now)) + rest ≡ k) }
 {
-    if k as usize >= rules.len() {
-        return None;
+    let mut rest = k as usize;
+    for group in groups {
+        if rest < group.len() {
+            return Ok(&group[rest].rule);
+        }
+        rest -= group.len();
     }
-    Some(&rules[k as usize].rule)
+    Err(rest)
+}
+
+// A rule of the group that is being proved, by its number.
+#[tactic(auto, unfolding(law_induction::specs::Scripts::grouped_at))]
+fn grouped<'a>(s: &Setting<'_, '_, 'a>, k: u32) -> Option<&'a Rule>
+    ensures { grouped_at (length (setting_in s.now).rules) (setting_in s.now).group k
+        ≡ option_map (λ r. rule_in r.now) result }
+{
+    match earlier(s.groups, k) {
+        Ok(_) => None,
+        Err(rest) => {
+            if rest >= s.group.len() {
+                return None;
+            }
+            Some(&s.group[rest].rule)
+        }
+    }
+}
+
+// The variable a for itself.
+fn again_by(b: Exponent, c: Exponent, d: Exponent) -> Exponents
+    ensures { result ≡ again_by b c d }
+{
+    let a = Exponent {
+        ones: 0,
+        a: 1,
+        b: 0,
+        c: 0,
+        d: 0,
+    };
+    Exponents { a, b, c, d }
 }
 
 impl Form {
-    ghost use Rattle.law_induction.specs.declared.moves.Move.TheVariants.{Steps, Use, Again, Forth, Back};
+    ghost use Rattle.law_induction.specs.declared.moves.Move.TheVariants.{Steps, Use, Again, Together, Forth, Back};
 
     // Steps, where there are no more than may be.
     #[tactic(auto, unfolding(law_induction::specs::Scripts::done, law_induction::specs::Words::step_limit))]
@@ -51,7 +87,7 @@ impl Form {
     ) -> Result<(), Stop>
         ensures { Yields (λ _. form_in self.new) (done (setting_in s.now) (Use k by.now) (form_in self.old)) result }
     {
-        let Some(rule) = earlier(s.rules, k) else {
+        let Ok(rule) = earlier(s.groups, k) else {
             return Err(Stop::Fails);
         };
         self.use_rule(alloc, rule, by, s.open_left, s.open_right)
@@ -72,20 +108,27 @@ impl Form {
         let Some(rule) = s.again else {
             return Err(Stop::Fails);
         };
-        let a = Exponent {
-            ones: 0,
-            a: 1,
-            b: 0,
-            c: 0,
-            d: 0,
+        self.use_rule(alloc, rule, &again_by(b, c, d), s.open_left, s.open_right)
+    }
+
+    // A rule that is proved together with it.
+    #[tactic(auto, unfolding(law_induction::specs::Scripts::done))]
+    fn use_together(
+        &mut self,
+        alloc: Global,
+        s: &Setting<'_, '_, '_>,
+        k: u32,
+        b: Exponent,
+        c: Exponent,
+        d: Exponent,
+    ) -> Result<(), Stop>
+        ensures { Yields (λ _. form_in self.new) (done (setting_in s.now) (Together k b c d) (form_in self.old))
+            result }
+    {
+        let Some(rule) = grouped(s, k) else {
+            return Err(Stop::Fails);
         };
-        self.use_rule(
-            alloc,
-            rule,
-            &Exponents { a, b, c, d },
-            s.open_left,
-            s.open_right,
-        )
+        self.use_rule(alloc, rule, &again_by(b, c, d), s.open_left, s.open_right)
     }
 
     // An equation, from its left side to its right one.
@@ -148,6 +191,7 @@ impl Form {
             Move::Turn => self.turn(alloc),
             Move::Use(k, by) => self.use_earlier(alloc, s, k, &by),
             Move::Again(b, c, d) => self.use_again(alloc, s, b, c, d),
+            Move::Together(k, b, c, d) => self.use_together(alloc, s, k, b, c, d),
             Move::Forth(side, place, e) => self.forth(alloc, s, side, place, e),
             Move::Back(side, place, e) => self.back(alloc, s, side, place, e),
         }

@@ -3,10 +3,10 @@ ghost use Rattle.std.specs.Prelude.{◌≡◌};
 ghost use Rattle.kind_rules.specs.RuleTexts.{are_high};
 
 use crate::form_text::{is_form, read_form};
+use crate::group_text::{are_groups, read_groups};
 use crate::limits::MAX_RULE_BYTES;
 use crate::move_text::{is_script, read_script};
 use crate::number_text::four_from;
-use crate::rule_text::{are_rules, read_rules};
 use crate::unpacked::Unpacked;
 use std::alloc::{AllocError as NoMemory, Global};
 use text::Parts;
@@ -24,12 +24,12 @@ pub(crate) struct TextsGiven<'a> {
     pub again: &'a [u8],
 }
 
-// Whether no byte is below the comma.
+// Whether each byte is above the space.
 fn are_high(text: &[u8]) -> bool
     ensures { result ≡ are_high text.now }
 {
     for b in text {
-        if *b < b',' {
+        if *b <= b' ' {
             return false;
         }
     }
@@ -80,7 +80,7 @@ impl TextsGiven<'_> {
     fn give(&self) -> bool
         ensures { result ≡ is_some (certificate_in (rule_texts_given self.now)) }
     {
-        if !are_rules(self.states, self.rules) {
+        if !are_groups(self.states, self.rules) {
             return false;
         }
         if !is_form(self.states, self.family) {
@@ -114,7 +114,7 @@ impl TextsGiven<'_> {
     fn unpacked(&self, alloc: Global) -> Result<Option<Unpacked>, NoMemory>
         ensures { IfOk result (λ read. option_map certificate_of read ≡ certificate_in (rule_texts_given self.now)) }
     {
-        let Some(rules) = read_rules(alloc, self.states, self.rules)? else {
+        let Some(groups) = read_groups(alloc, self.states, self.rules)? else {
             return Ok(None);
         };
         let Some(family) = read_form(alloc, self.states, self.family)? else {
@@ -133,7 +133,7 @@ impl TextsGiven<'_> {
             return Ok(None);
         };
         Ok(Some(Unpacked {
-            rules,
+            groups,
             family,
             first,
             begin,

@@ -12,11 +12,11 @@ pub struct ProvedRule {
     pub script: Vec<Move>,
 }
 
-/// The rules; the form that the run comes to again and again; its numbers at first, and how the run comes there; what
-/// stands in place of its variables when it comes there next, and how it does.
+/// The rules, in groups of those that are proved together; the form that the run comes to again and again; its numbers at
+/// first, and how the run comes there; what stands in place of its variables when it comes there next, and how it does.
 #[derive(Drop)]
 pub struct Unpacked {
-    pub rules: Vec<ProvedRule>,
+    pub groups: Vec<Vec<ProvedRule>>,
     pub family: Form,
     pub first: Exponents,
     pub begin: Vec<Move>,

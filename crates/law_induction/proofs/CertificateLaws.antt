@@ -1,6 +1,6 @@
 -- A certificate's machine never halts.
 use Rattle.std.proofs.Common.{◌≡◌, ℕ, zero, suc, Bool, true, false, List, [], ◌∷◌, ◌++◌, Option, Some, None, refl, sym, ap, ◌∙◌, subst, append_assoc, arith}
-use Rattle.std.specs.Prelude.{nat_le}
+use Rattle.std.specs.Prelude.{nat_le, is_some}
 use Rattle.std.proofs.lemmas.Bool.{and_parts, false≢true}
 use Rattle.std.proofs.lemmas.Bool.Decides.{Decides-eqb}
 use Rattle.std.proofs.lemmas.Option.{same_Some, none-some}
@@ -15,7 +15,7 @@ use Rattle.law_induction.specs.Words.{Values, all_steps_limit, times_with, never
 use Rattle.law_induction.specs.Forms.{Form, zipper_of, IsBeyond, RuleForm, HoldsAt, RuleHolds}
 use Rattle.law_induction.specs.Equations.{instance_of}
 use Rattle.law_induction.specs.Scripts.{Setting, rule_at, all_done, has_step}
-use Rattle.law_induction.specs.Rules.{Proved, Certificate, form_by, form_eq, arrives, script_leads, leads_from, leads_by, with_a, setting, is_proved_by, are_proved, forms_of, all_steps, blank_form, is_certificate}
+use Rattle.law_induction.specs.Rules.{Proved, Certificate, form_by, form_eq, arrives, script_leads, leads_from, leads_by, with_a, setting, is_proved_by, each_proved, by_induction, is_group_proved, are_proved, forms_of, all_forms, all_steps, blank_form, is_certificate}
 use Rattle.law_induction.proofs.ValueLaws.{bound, values_by, same_blocks}
 use Rattle.law_induction.proofs.UseLaws.{cells_instance, same_heading, zipper_same}
 use Rattle.law_induction.proofs.ScriptLaws.{IsSound, script_comes, script_goes}
@@ -74,23 +74,26 @@ next_values v u a b c d = values_same _ _ _ _ v.a v.b v.c v.d (omega arith) (ome
 pub record AllHold (m : Machine) (rules : List RuleForm) : Type 0 where
   pub each : (k : ℕ) (rule : RuleForm) → rule_at rules k ≡ Some rule → RuleHolds m rule
 
-module _ (m : Machine) (rules : List RuleForm) (all : AllHold m rules) (rule : RuleForm) where
-  plain_sound : (open_left open_right : Bool) (v : Values) → IsSound (setting m rules None open_left open_right) v
-  plain_sound open_left open_right v = record { rules = all.each; again = λ other is. absurd (none-some other is) }
+module _ (m : Machine) (rules : List RuleForm) (all : AllHold m rules) where
+  no_group : (v : Values) (k : ℕ) (rule : RuleForm) → rule_at [] k ≡ Some rule → (w : Values) → w.a ≡ v.a → HoldsAt m rule w
+  no_group v k rule is w at = absurd (none-some rule is)
 
-  by_script : (moves : List Move) → script_leads (setting m rules None rule.open_left rule.open_right) moves rule.from rule.to ≡ true → RuleHolds m rule
-  by_script moves is = record {
+  plain_sound : (open_left open_right : Bool) (v : Values) → IsSound (setting m rules [] None open_left open_right) v
+  plain_sound open_left open_right v = record { rules = all.each; group = no_group v; again = λ other is. absurd (none-some other is) }
+
+  by_script : (rule : RuleForm) (moves : List Move) → script_leads (setting m rules [] None rule.open_left rule.open_right) moves rule.from rule.to ≡ true → RuleHolds m rule
+  by_script rule moves is = record {
     at = λ v. record {
-      run = λ l r on_left on_right. leads_comes (setting m rules None rule.open_left rule.open_right) v (plain_sound rule.open_left rule.open_right v) l r on_left on_right moves rule.from rule.to is;
+      run = λ l r on_left on_right. leads_comes (setting m rules [] None rule.open_left rule.open_right) v (plain_sound rule.open_left rule.open_right v) l r on_left on_right moves rule.from rule.to is;
     };
   }
 
   -- at other values
-  leads_at : (again : Option RuleForm) (by : Exponents) (moves : List Move) (v : Values) →
-      leads_by (setting m rules again rule.open_left rule.open_right) by moves rule ≡ true → IsSound (setting m rules again rule.open_left rule.open_right) v → HoldsAt m rule (values_by by v)
+  leads_at : (group : List RuleForm) (again : Option RuleForm) (by : Exponents) (rule : RuleForm) (moves : List Move) (v : Values) →
+      leads_by (setting m rules group again rule.open_left rule.open_right) by moves rule ≡ true → IsSound (setting m rules group again rule.open_left rule.open_right) v → HoldsAt m rule (values_by by v)
   unfolding leads_by
-  leads_at again by moves v is sound =
-      let s = setting m rules again rule.open_left rule.open_right in
+  leads_at group again by rule moves v is sound =
+      let s = setting m rules group again rule.open_left rule.open_right in
       let (f, g, from, to, script_leads) = both_forms s moves (form_by by rule.from) (form_by by rule.to) is in
       record {
         run = λ l r on_left on_right.
@@ -98,64 +101,106 @@ module _ (m : Machine) (rules : List RuleForm) (all : AllHold m rules) (rule : R
             (leads_comes s v sound l r on_left on_right moves f g script_leads ⨾ same m (zipper_by by rule.to g v l r to));
       }
 
-  by_induction : (base moves : List Move) →
-      leads_by (setting m rules None rule.open_left rule.open_right) (with_a never_once) base rule ≡ true →
-      leads_by (setting m rules (Some rule) rule.open_left rule.open_right) (with_a (times_with 1 1 0 0 0)) moves rule ≡ true →
-      (n : ℕ) (v : Values) → v.a ≡ n → HoldsAt m rule v
-  by_induction base moves first next zero v is =
-      subst (HoldsAt m rule) (zero_values v is) (leads_at None (with_a never_once) base v first (plain_sound rule.open_left rule.open_right v))
-  by_induction base moves first next (suc n) v is =
+  -- a rule of a group in which each is proved by induction
+  record IsInduced (group : List RuleForm) (rule : RuleForm) : Type 0 where
+    base : List Move
+    moves : List Move
+    first : leads_by (setting m rules [] None rule.open_left rule.open_right) (with_a never_once) base rule ≡ true
+    next : leads_by (setting m rules group (Some rule) rule.open_left rule.open_right) (with_a (times_with 1 1 0 0 0)) moves rule ≡ true
+
+  induced : (group : List RuleForm) (rule : RuleForm) (base : Option (List Move)) (moves : List Move) → is_some base ≡ true → is_proved_by m rules group rule base moves ≡ true → IsInduced group rule
+  unfolding is_proved_by
+  induced group rule None moves by is = absurd (false≢true by)
+  induced group rule (Some base) moves by is =
+      let (first, next) = and_parts _ _ is in
+      record { base = base; moves = moves; first = first; next = next }
+
+  each_induced : (group : List RuleForm) (ps : List Proved) → by_induction ps ≡ true → each_proved m rules group ps ≡ true →
+      (k : ℕ) (rule : RuleForm) → rule_at (forms_of ps) k ≡ Some rule → IsInduced group rule
+  unfolding each_proved
+  each_induced group [] by is k rule at = absurd (none-some rule at)
+  each_induced group (p ∷ ps) by is zero rule at =
+      let (one, rest) = and_parts (is_proved_by m rules group p.rule p.base p.script) _ is in
+      let (one_by, rest_by) = and_parts (is_some p.base) _ by in
+      subst (IsInduced group) (same_Some p.rule rule at) (induced group p.rule p.base p.script one_by one)
+  each_induced group (p ∷ ps) by is (suc k) rule at =
+      let (one, rest) = and_parts (is_proved_by m rules group p.rule p.base p.script) _ is in
+      let (one_by, rest_by) = and_parts (is_some p.base) _ by in
+      each_induced group ps rest_by rest k rule at
+
+  -- by induction on a value of a: all rules of the group hold where a is that
+  all_at : (group : List RuleForm) → ((k : ℕ) (rule : RuleForm) → rule_at group k ≡ Some rule → IsInduced group rule) →
+      (n : ℕ) (k : ℕ) (rule : RuleForm) → rule_at group k ≡ Some rule → (v : Values) → v.a ≡ n → HoldsAt m rule v
+  all_at group each zero k rule at v is =
+      let p = each k rule at in
+      subst (HoldsAt m rule) (zero_values v is) (leads_at [] None (with_a never_once) rule p.base v p.first (plain_sound rule.open_left rule.open_right v))
+  all_at group each (suc n) k rule at v is =
+      let p = each k rule at in
       let u : Values = record { a = n; b = v.b; c = v.c; d = v.d } in
-      subst (HoldsAt m rule) (next_values v u is refl refl refl) (leads_at (Some rule) (with_a (times_with 1 1 0 0 0)) moves u next (record {
+      subst (HoldsAt m rule) (next_values v u is refl refl refl) (leads_at group (Some rule) (with_a (times_with 1 1 0 0 0)) rule p.moves u p.next (record {
         rules = all.each;
-        again = λ other same w at. subst (λ x. HoldsAt m x w) (same_Some rule other same) (by_induction base moves first next n w at);
+        group = all_at group each n;
+        again = λ other same w at_w. subst (λ x. HoldsAt m x w) (same_Some rule other same) (all_at group each n k rule at w at_w);
       }))
 
-  pub proved_holds : (base : Option (List Move)) (moves : List Move) → is_proved_by m rules rule base moves ≡ true → RuleHolds m rule
-  unfolding is_proved_by
-  proved_holds None moves is = by_script moves is
-  proved_holds (Some base) moves is =
-      let (first, next) = and_parts _ _ is in
-      record { at = λ v. by_induction base moves first next v.a v refl }
+  together_hold : (ps : List Proved) → by_induction ps ≡ true → each_proved m rules (forms_of ps) ps ≡ true → AllHold m (forms_of ps)
+  together_hold ps by is = record {
+    each = λ k rule at. record { at = λ v. all_at (forms_of ps) (each_induced (forms_of ps) ps by is) v.a k rule at v refl };
+  }
 
-one_more : (m : Machine) (rules : List RuleForm) (rule : RuleForm) → AllHold m rules → RuleHolds m rule → AllHold m (rules ++ rule ∷ [])
-one_more m [] rule all holds = record { each = go }
-  where
-    go : (k : ℕ) (other : RuleForm) → rule_at (rule ∷ []) k ≡ Some other → RuleHolds m other
-    go zero other is = subst (RuleHolds m) (same_Some rule other is) holds
-    go (suc k) other is = absurd (none-some other is)
-one_more m (first ∷ rules) rule all holds = put_first m first (rules ++ rule ∷ []) (all.each 0 first refl) (one_more m rules rule (record { each = λ k. all.each (suc k) }) holds)
-  where
-    put_first : (m : Machine) (first : RuleForm) (rest : List RuleForm) → RuleHolds m first → AllHold m rest → AllHold m (first ∷ rest)
-    put_first m first rest holds all = record { each = go }
-      where
-        go : (k : ℕ) (other : RuleForm) → rule_at (first ∷ rest) k ≡ Some other → RuleHolds m other
-        go zero other is = subst (RuleHolds m) (same_Some first other is) holds
-        go (suc k) other is = all.each k other is
+  one_holds : (rule : RuleForm) → RuleHolds m rule → AllHold m (rule ∷ [])
+  one_holds rule holds = record { each = go }
+    where
+      go : (k : ℕ) (other : RuleForm) → rule_at (rule ∷ []) k ≡ Some other → RuleHolds m other
+      go zero other is = subst (RuleHolds m) (same_Some rule other is) holds
+      go (suc k) other is = absurd (none-some other is)
 
-pub all_hold : (m : Machine) (rules : List RuleForm) (ps : List Proved) → AllHold m rules → are_proved m rules ps ≡ true → AllHold m (rules ++ forms_of ps)
+  -- a rule by itself
+  alone_holds : (rule : RuleForm) (base : Option (List Move)) (moves : List Move) →
+      each_proved m rules (rule ∷ []) (record { rule = rule; base = base; script = moves } ∷ []) ≡ true → AllHold m (rule ∷ [])
+  unfolding each_proved is_proved_by
+  alone_holds rule None moves is = one_holds rule (by_script rule moves (and_parts _ true is).0)
+  alone_holds rule (Some base) moves is = together_hold (record { rule = rule; base = Some base; script = moves } ∷ []) refl is
+
+  pub group_holds : (ps : List Proved) → is_group_proved m rules ps ≡ true → AllHold m (forms_of ps)
+  unfolding is_group_proved
+  group_holds [] is = record { each = λ k rule at. absurd (none-some rule at) }
+  group_holds (p ∷ []) is = alone_holds p.rule p.base p.script is
+  group_holds (p ∷ q ∷ ps) is =
+      let (by, each) = and_parts (by_induction (p ∷ q ∷ ps)) _ is in
+      together_hold (p ∷ q ∷ ps) by each
+
+put_first : (m : Machine) (first : RuleForm) (rest : List RuleForm) → RuleHolds m first → AllHold m rest → AllHold m (first ∷ rest)
+put_first m first rest holds all = record { each = go }
+  where
+    go : (k : ℕ) (other : RuleForm) → rule_at (first ∷ rest) k ≡ Some other → RuleHolds m other
+    go zero other is = subst (RuleHolds m) (same_Some first other is) holds
+    go (suc k) other is = all.each k other is
+
+both_hold : (m : Machine) (rules more : List RuleForm) → AllHold m rules → AllHold m more → AllHold m (rules ++ more)
+both_hold m [] more all also = also
+both_hold m (first ∷ rules) more all also =
+    put_first m first (rules ++ more) (all.each 0 first refl) (both_hold m rules more (record { each = λ k. all.each (suc k) }) also)
+
+pub all_hold : (m : Machine) (rules : List RuleForm) (groups : List (List Proved)) → AllHold m rules → are_proved m rules groups ≡ true → AllHold m (rules ++ all_forms groups)
 unfolding are_proved
-all_hold m rules [] all is = subst (AllHold m) (sym (nothing_more rules)) all
-  where
-    nothing_more : (rules : List RuleForm) → rules ++ [] ≡ rules
-    nothing_more [] = refl
-    nothing_more (r ∷ rules) = ap (λ x. r ∷ x) (nothing_more rules)
-all_hold m rules (p ∷ ps) all is =
-    let (one, rest) = and_parts (is_proved_by m rules p.rule p.base p.script) _ is in
-    subst (AllHold m) (append_assoc rules (p.rule ∷ []) (forms_of ps))
-    (all_hold m (rules ++ p.rule ∷ []) ps (one_more m rules p.rule all (proved_holds m rules all p.rule p.base p.script one)) rest)
+all_hold m rules [] all is = both_hold m rules [] all (record { each = λ k rule at. absurd (none-some rule at) })
+all_hold m rules (group ∷ groups) all is =
+    let (one, rest) = and_parts (is_group_proved m rules group) _ is in
+    subst (AllHold m) (append_assoc rules (forms_of group) (all_forms groups))
+    (all_hold m (rules ++ forms_of group) groups (both_hold m rules (forms_of group) all (group_holds m rules all group one)) rest)
 
 -- the law
 pub certificate_never : (m : Machine) (c : Certificate) → is_certificate m c ≡ true → Never m
 unfolding is_certificate
 certificate_never m c is =
     let (few, r0) = and_parts (nat_le (all_steps c) all_steps_limit) _ is in
-    let (proved, r1) = and_parts (are_proved m [] c.rules) _ r0 in
+    let (proved, r1) = and_parts (are_proved m [] c.groups) _ r0 in
     let (begins, r2) = and_parts _ _ r1 in
     let (loops, steps) = and_parts _ _ r2 in
-    let all : AllHold m (forms_of c.rules) = all_hold m [] c.rules (record { each = λ k rule none. absurd (none-some rule none) }) proved in
-    let s = setting m (forms_of c.rules) None false false in
-    let sound : (v : Values) → IsSound s v = λ v. record { rules = all.each; again = λ other none. absurd (none-some other none) } in
+    let all : AllHold m (all_forms c.groups) = all_hold m [] c.groups (record { each = λ k rule none. absurd (none-some rule none) }) proved in
+    let s = setting m (all_forms c.groups) [] None false false in
+    let sound : (v : Values) → IsSound s v = λ v. record { rules = all.each; group = λ k rule none. absurd (none-some rule none); again = λ other none. absurd (none-some other none) } in
     let zeros : Values = record { a = 0; b = 0; c = 0; d = 0 } in
     let (f, g, from, to, first) = both_forms s c.begin (Some blank_form) (form_by c.first c.family) begins in
     let (h, k, of, next, again) = both_forms s c.loop (Some c.family) (form_by c.next c.family) loops in

@@ -9,12 +9,12 @@ use Rattle.law_machines.specs.Rules.{Comes, Goes}
 use Rattle.law_machines.proofs.RuleLaws.{same, ◌⨾◌, ◌⨾⁺◌, ◌⁺⨾◌}
 use Rattle.law_induction.specs.declared.block.Block.{Block}
 use Rattle.law_induction.specs.declared.moves.Move.{Move}
-use Rattle.law_induction.specs.declared.moves.Move.TheVariants.{Steps, Turn, Use, Again, Forth, Back}
+use Rattle.law_induction.specs.declared.moves.Move.TheVariants.{Steps, Turn, Use, Again, Together, Forth, Back}
 use Rattle.law_induction.specs.Words.{step_limit, half_block_limit, Values}
-use Rattle.std.specs.Prelude.{nat_le, ◌&&◌}
+use Rattle.std.specs.Prelude.{nat_le, ◌-◌, ◌&&◌}
 use Rattle.law_induction.specs.Forms.{Form, zipper_of, IsBeyond, RuleForm, HoldsAt, RuleHolds}
 use Rattle.law_induction.specs.Equations.{sides, is_at_end, half_rewritten}
-use Rattle.law_induction.specs.Scripts.{steps_done, Setting, equals, again_by, rule_at, done, small, done_within, all_done, is_step, has_step}
+use Rattle.law_induction.specs.Scripts.{steps_done, Setting, equals, again_by, rule_at, grouped_at, done, small, done_within, all_done, is_step, has_step}
 use Rattle.law_induction.proofs.ValueLaws.{tested, bound, values_by}
 use Rattle.law_induction.proofs.EquationLaws.{Agree, sides_agree, agree_back, rewritten_same, same_is}
 use Rattle.law_induction.proofs.StepLaws.{same_faced, steps_come, steps_go, turned_comes}
@@ -23,7 +23,13 @@ use Rattle.law_induction.proofs.UseLaws.{used_comes}
 -- what a script may use holds
 pub record IsSound (s : Setting) (v : Values) : Type 0 where
   pub rules : (k : ℕ) (rule : RuleForm) → rule_at s.rules k ≡ Some rule → RuleHolds s.machine rule
+  pub group : (k : ℕ) (rule : RuleForm) → rule_at s.group k ≡ Some rule → (w : Values) → w.a ≡ v.a → HoldsAt s.machine rule w
   pub again : (rule : RuleForm) → s.again ≡ Some rule → (w : Values) → w.a ≡ v.a → HoldsAt s.machine rule w
+
+-- a rule of a group, by its number in it
+grouped_is : (before : ℕ) (group : List RuleForm) (k : ℕ) (rule : RuleForm) → grouped_at before group k ≡ Some rule → rule_at group (k - before) ≡ Some rule
+unfolding grouped_at
+grouped_is before group k rule is = (tested (nat_le before k) (rule_at group (k - before)) rule is).1
 
 module _ (s : Setting) (v : Values) (sound : IsSound s v) (l r : List Sym) (on_left : IsBeyond s.open_left l) (on_right : IsBeyond s.open_right r) where
   equals_comes : (side : Dir) (place : ℕ) (at_end : Bool) (old new : List Block) (f g : Form) → Agree at_end old new v →
@@ -48,6 +54,10 @@ module _ (s : Setting) (v : Values) (sound : IsSound s v) (l r : List Sym) (on_l
   done_comes (Again b c d) f g is =
       let (rule, there, use_it) = bound s.again _ g is in
       used_comes s.machine rule (again_by b c d) s.open_left s.open_right f g v l r (sound.again rule there (values_by (again_by b c d) v) (omega arith)) use_it on_left on_right
+  done_comes (Together k b c d) f g is =
+      let (rule, there, use_it) = bound (grouped_at (length s.rules) s.group k) _ g is in
+      let holds = sound.group (k - length s.rules) rule (grouped_is (length s.rules) s.group k rule there) (values_by (again_by b c d) v) (omega arith) in
+      used_comes s.machine rule (again_by b c d) s.open_left s.open_right f g v l r holds use_it on_left on_right
   done_comes (Forth side place e) f g is =
       let (x, are, to) = bound (sides e) _ g is in
       equals_comes side place (is_at_end e) x.before x.after f g (sides_agree e x v are) to
@@ -62,6 +72,7 @@ module _ (s : Setting) (v : Values) (sound : IsSound s v) (l r : List Sym) (on_l
   done_goes Turn f g sure is = absurd (false≢true sure)
   done_goes (Use k by) f g sure is = absurd (false≢true sure)
   done_goes (Again b c d) f g sure is = absurd (false≢true sure)
+  done_goes (Together k b c d) f g sure is = absurd (false≢true sure)
   done_goes (Forth side place e) f g sure is = absurd (false≢true sure)
   done_goes (Back side place e) f g sure is = absurd (false≢true sure)
 

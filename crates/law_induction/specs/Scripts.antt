@@ -1,5 +1,5 @@
 -- Scripts: how they go from one form to another.
-use Rattle.std.specs.Prelude.{nat_le, ℕ, zero, suc, ◌+◌, ◌==◌, ◌&&◌, ◌||◌, if◌then◌else◌, Bool, true, false, List, [], ◌∷◌, length, Option, Some, None}
+use Rattle.std.specs.Prelude.{nat_le, ℕ, zero, suc, ◌+◌, ◌-◌, ◌==◌, ◌&&◌, ◌||◌, if◌then◌else◌, Bool, true, false, List, [], ◌∷◌, length, Option, Some, None}
 use Rattle.machine_text.specs.declared.transition.Sym.{Sym}
 use Rattle.machine_text.specs.declared.transition.Sym.TheVariants.{Zero, One}
 use Rattle.machine_text.specs.declared.transition.Dir.{Dir}
@@ -10,7 +10,7 @@ use Rattle.law_induction.specs.declared.block.Exponent.{Exponent}
 use Rattle.law_induction.specs.declared.block.Exponents.{Exponents}
 use Rattle.law_induction.specs.declared.block.Block.{Block}
 use Rattle.law_induction.specs.declared.moves.Move.{Move}
-use Rattle.law_induction.specs.declared.moves.Move.TheVariants.{Steps, Turn, Use, Again, Forth, Back}
+use Rattle.law_induction.specs.declared.moves.Move.TheVariants.{Steps, Turn, Use, Again, Together, Forth, Back}
 use Rattle.law_induction.specs.Words.{step_limit, half_block_limit, times_with, single, block_eq, blocks_eq}
 use Rattle.law_induction.specs.Forms.{Form, form_with, RuleForm}
 use Rattle.law_induction.specs.Equations.{◌>>=◌, instance_of, sides, is_at_end, replaced, half_rewritten}
@@ -83,10 +83,12 @@ used rule by open_left open_right f =
     half_by by rule.open_right open_right rule.from.right rule.to.right f.right >>= λ right.
     Some (form_with left rule.to.state rule.to.heading right)) else None
 
--- what a script may use: the earlier rules, the rule that is being proved by induction, and which ends are open
+-- what a script may use: the earlier rules, the rules of the group that is being proved by induction, the one of them
+-- that is being proved, and which ends are open
 pub record Setting : Type 0 where
   pub machine : Machine
   pub rules : List RuleForm
+  pub group : List RuleForm
   pub again : Option RuleForm
   pub open_left : Bool
   pub open_right : Bool
@@ -118,12 +120,18 @@ rule_at [] k = None
 rule_at (r ∷ rs) zero = Some r
 rule_at (r ∷ rs) (suc k) = rule_at rs k
 
+-- a rule of a group, before which so many rules are
+unfoldable pub grouped_at : ℕ → List RuleForm → ℕ → Option RuleForm
+grouped_at before group k = if nat_le before k then rule_at group (k - before) else None
+
 -- one move, and a whole script
 unfoldable pub done : Setting → Move → Form → Option Form
 done s (Steps n) f = if nat_le n step_limit then steps_done s.machine n f else None
 done s Turn f = form_turned f
 done s (Use k by) f = rule_at s.rules k >>= λ rule. used rule by s.open_left s.open_right f
 done s (Again b c d) f = s.again >>= λ rule. used rule (again_by b c d) s.open_left s.open_right f
+done s (Together k b c d) f =
+    grouped_at (length s.rules) s.group k >>= λ rule. used rule (again_by b c d) s.open_left s.open_right f
 done s (Forth side place e) f = sides e >>= λ x. equals s side place (is_at_end e) x.before x.after f
 done s (Back side place e) f = sides e >>= λ x. equals s side place (is_at_end e) x.after x.before f
 
@@ -145,6 +153,7 @@ is_step (Steps (suc n)) = true
 is_step Turn = false
 is_step (Use k by) = false
 is_step (Again b c d) = false
+is_step (Together k b c d) = false
 is_step (Forth side place e) = false
 is_step (Back side place e) = false
 
@@ -158,6 +167,7 @@ move_steps (Steps n) = n
 move_steps Turn = 0
 move_steps (Use k by) = 0
 move_steps (Again b c d) = 0
+move_steps (Together k b c d) = 0
 move_steps (Forth side place e) = 0
 move_steps (Back side place e) = 0
 

@@ -1,4 +1,4 @@
--- No byte of a list is below the comma: so there is neither a space nor a newline in it.
+-- Each byte of a list is above the space: so there is neither a space nor a newline in it.
 use Rattle.std.proofs.Common.{◌≡◌, ℕ, ◌+◌, ◌-◌, ◌*◌, ◌/◌, ◌%◌, ◌<◌, ◌≤◌, List, length, take, drop, get_or, inl, inr, ◌∙◌, ap, arith}
 use Rattle.std.specs.Prelude.{IsTrue, All}
 use Rattle.std.proofs.lemmas.Bool.{cases_lt}
@@ -13,9 +13,9 @@ use Rattle.ngram_cps.specs.Lists.{Lists, AreLists}
 use Rattle.ngram_cps.proofs.Sorted.{end_of, item_size}
 
 abbrev pub AreHigh : List ℕ → Type 0
-AreHigh text = All (λ b. 44 ≤ b) text
+AreHigh text = All (λ b. 33 ≤ b) text
 
-digit_is_high : (b : ℕ) → IsTrue (is_digit b) → 44 ≤ b
+digit_is_high : (b : ℕ) → IsTrue (is_digit b) → 33 ≤ b
 digit_is_high b digit = grind (arith, nat_tests, digit)
 
 -- a byte of an item stands in the text
@@ -41,8 +41,8 @@ next_count w count q less =
           absurd (omega arith)
     ]
 
-module _ (w count : ℕ) (text : List ℕ) (l : IsListing w count text) (each : (k j : ℕ) → k < count → j < w → 44 ≤ get_or (item w text k) j 0) where
-  high_at : (q j i : ℕ) → q * (w + 1) + j ≡ i → j < w + 1 → i < length text → 44 ≤ get_or text i 0
+module _ (w count : ℕ) (text : List ℕ) (l : IsListing w count text) (each : (k j : ℕ) → k < count → j < w → 33 ≤ get_or (item w text k) j 0) where
+  high_at : (q j i : ℕ) → q * (w + 1) + j ≡ i → j < w + 1 → i < length text → 33 ≤ get_or text i 0
   high_at q j i is inside less =
       let size = l.size in
       elim (cases_lt j w) [
@@ -59,7 +59,7 @@ module _ (w count : ℕ) (text : List ℕ) (l : IsListing w count text) (each : 
       ]
 
   listing_is_high : AreHigh text
-  listing_is_high = All-from_get_or (λ b. 44 ≤ b) text 0 (λ i less.
+  listing_is_high = All-from_get_or (λ b. 33 ≤ b) text 0 (λ i less.
       let whole : i / (w + 1) * (w + 1) + i % (w + 1) ≡ i = div-add-mod' i (w + 1) in
       let inside : i % (w + 1) < w + 1 = mod-lt i (omega arith) in
       high_at (i / (w + 1)) (i % (w + 1)) i whole inside less)
@@ -71,7 +71,7 @@ words_are_high : (g : ℕ) (text : List ℕ) → IsWordList g text → AreHigh t
 words_are_high g text list = listing_is_high g list.count text list.listing (λ k j less inside.
     digit_is_high (get_or (item g text k) j 0) ((list.words.each k less).digits j (let size = length_of_item g list.count text list.listing k less in omega arith)))
 
-local_is_high : (n g : ℕ) (bytes : List ℕ) → length bytes ≡ 2 * g + 2 → IsLocalText n g bytes → (j : ℕ) → j < 2 * g + 2 → 44 ≤ get_or bytes j 0
+local_is_high : (n g : ℕ) (bytes : List ℕ) → length bytes ≡ 2 * g + 2 → IsLocalText n g bytes → (j : ℕ) → j < 2 * g + 2 → 33 ≤ get_or bytes j 0
 local_is_high n g bytes size l j inside = elim (cases_lt j g) [
   | inl left ↦
       let same = get_or-take g bytes j 0 left in

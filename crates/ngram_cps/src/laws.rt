@@ -10,11 +10,11 @@ pub fn lists_are_tested()
     ensures { (s : Lists) → Decides (are_lists s) (AreLists s) }
 {}
 
-/// No byte of a list is below the comma: so it has neither a space nor a newline.
+/// Each byte of a list is above the space: so it has neither a space nor a newline.
 pub fn list_texts_are_high()
-    ensures left { (s : Lists) → AreLists s → All (λ byte. 44 ≤ byte) s.left }
-    ensures right { (s : Lists) → AreLists s → All (λ byte. 44 ≤ byte) s.right }
-    ensures local { (s : Lists) → AreLists s → All (λ byte. 44 ≤ byte) s.local }
+    ensures left { (s : Lists) → AreLists s → All (λ byte. 33 ≤ byte) s.left }
+    ensures right { (s : Lists) → AreLists s → All (λ byte. 33 ≤ byte) s.right }
+    ensures local { (s : Lists) → AreLists s → All (λ byte. 33 ≤ byte) s.local }
 {}
 
 /// Closed position sets are a kind: their fields read back, and where one stands the table never halts.

@@ -14,12 +14,12 @@ IsSpace b = eqb b 32
 -- a field has no space and no newline
 no_space : (text : List ℕ) → IsField text → All (λ b. IsSpace b ≡ false) text
 no_space text field = All-from_get_or (λ b. IsSpace b ≡ false) text 0 (λ i below.
-    let above : 44 ≤ get_or text i 0 = All-get_or (λ b. 44 ≤ b) text i 0 below field in
+    let above : 33 ≤ get_or text i 0 = All-get_or (λ b. 33 ≤ b) text i 0 below field in
     grind (arith, nat_tests))
 
 pub field_line : (text : List ℕ) → IsField text → All (λ b. b ≢ 10) text
 field_line text field = All-from_get_or (λ b. b ≢ 10) text 0 (λ i below.
-    let above : 44 ≤ get_or text i 0 = All-get_or (λ b. 44 ≤ b) text i 0 below field in
+    let above : 33 ≤ get_or text i 0 = All-get_or (λ b. 33 ≤ b) text i 0 below field in
     omega arith)
 
 pub parts_of-spaced : (kind : List ℕ) (fields : List (List ℕ)) → IsField kind → All IsField fields → parts_of 32 (kind ++ spaced fields) ≡ kind ∷ fields
@@ -36,7 +36,7 @@ spaced_line (field ∷ fields) each =
     (All-append (λ b. b ≢ 10) field (spaced fields) (field_line field (All-head IsField field fields each)) (spaced_line fields (All-tail IsField field fields each)))
 
 pub number_is_field : (n : ℕ) → n < 2 ^ 64 → IsField (decimal n)
-number_is_field n small = All-from_get_or (λ b. 44 ≤ b) (decimal n) 0 (λ i below.
+number_is_field n small = All-from_get_or (λ b. 33 ≤ b) (decimal n) 0 (λ i below.
     let above : 48 ≤ get_or (decimal n) i 0 = All-get_or (λ b. 48 ≤ b) (decimal n) i 0 below (decimal_is_form n small).digits in
     omega arith)
 

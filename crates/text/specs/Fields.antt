@@ -1,5 +1,5 @@
 -- The fields of a record: the parts of its text behind its kind, as they are read and written. Bytes are their ASCII
--- codes: 32 is the space, 44 the comma.
+-- codes: 32 is the space.
 use Rattle.std.specs.Prelude.{ℕ, ◌≤◌, List, [], ◌∷◌, ◌++◌, length, All, Option, Some, None, Result, Ok, Err}
 use Rattle.text.specs.declared.fields.FieldFault.{FieldFault}
 use Rattle.text.specs.declared.fields.FieldFault.TheVariants.{BadNumber}
@@ -15,9 +15,9 @@ abbrev pub made_of : {A B : Type 0} → (A → B) → Result A FieldFault → Re
 made_of made (Ok x) = Ok (made x)
 made_of made (Err fault) = Err fault
 
--- no byte of a field is below the comma: so it has neither a space nor a newline
+-- each byte of a field is above the space: so it has neither a space nor a newline
 abbrev pub IsField : List ℕ → Type 0
-IsField text = All (λ byte. 44 ≤ byte) text
+IsField text = All (λ byte. 33 ≤ byte) text
 
 -- fields as they are written, each behind a space
 abbrev pub spaced : List (List ℕ) → List ℕ

@@ -1,6 +1,6 @@
-use Rattle.far.proofs.RoundTrip.{texts_back, same_back, bytes_from_comma}
+use Rattle.far.proofs.RoundTrip.{texts_back, same_back, bytes_above_space}
 use Rattle.far.proofs.Short.{fields_are_short}
 use Rattle.far.proofs.laws.texts_read_back.Goals as goal
 
 pub returns : goal.returns
-returns c = record { texts = texts_back; same = same_back; short = fields_are_short; bytes = bytes_from_comma }
+returns c = record { texts = texts_back; same = same_back; short = fields_are_short; bytes = bytes_above_space }

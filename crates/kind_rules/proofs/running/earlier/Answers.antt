@@ -1,13 +1,19 @@
-use Rattle.std.proofs.Common.{Some, ap, ◌∙◌}
-use Rattle.kind_rules.specs.declared.unpacked.ProvedRule.{ProvedRule}
-use Rattle.kind_rules.specs.Views.{rule_in}
-use Rattle.kind_rules.proofs.ListLaws.{rule_found, rule_missing}
+use Rattle.std.proofs.Common.{◌≡◌, ◌<◌, length, arith}
+use Rattle.kind_rules.proofs.ListLaws.{found_here, passed_by, passed_length}
 use Rattle.kind_rules.proofs.running.earlier.Goals as goal
 
-pub returns-then-k-rules : goal.returns-then-k-rules
-returns-then-k-rules c = rule_missing c.args.rules.now c.args.k c.if-k-rules.true
+pub returns-then-rest-len-clause-found : goal.returns-then-rest-len-clause-found
+returns-then-rest-len-clause-found c =
+    let within : c.loop-group.rest < length c.group-item.result.items = omega (arith, c.if-rest-len.true, c.len.ensures, c.group-item.result.ok.0) in
+    found_here c.args.groups.now c.loop-group.group-index c.group-item.result c.loop-group.rest c.index.result.now _ c.loop-group-test.true c.group-item.is within c.index.ensures c.loop-group.invariant.0
 
-pub returns : goal.returns
-returns c =
-    rule_found c.args.rules.now c.args.k c.index-rules-k.result c.if-k-rules.false c.index-rules-k.is ∙
-    ap (λ (p : ProvedRule). Some (rule_in p.rule)) c.index-rules-k.is
+pub loop-group-preserved : goal.loop-group-preserved
+loop-group-preserved c =
+    let size : c.len-rest.result ≡ length c.group-item.result.items = omega (arith, c.len-rest.ensures, c.group-item.result.ok.0) in
+    let past = c.if-rest-len.false in
+    let also : c.len.result ≡ length c.group-item.result.items = omega (arith, c.len.ensures, c.group-item.result.ok.0) in
+    let more = passed_length c.args.groups.now c.loop-group.group-index c.group-item.result c.loop-group-test.true c.group-item.is in
+    let before = c.loop-group.invariant.1 in (
+      passed_by c.args.groups.now c.loop-group.group-index c.group-item.result c.loop-group.rest c.len-rest.result _ c.loop-group-test.true c.group-item.is size (omega (arith, size, past, also)) c.loop-group.invariant.0,
+      omega (arith, size, past, also, more, before),
+    )

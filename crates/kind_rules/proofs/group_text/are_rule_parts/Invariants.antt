@@ -1,7 +1,7 @@
 use Rattle.std.proofs.Common.{◌≡◌, length}
 use Rattle.std.specs.Prelude.{is_some}
 use Rattle.kind_rules.specs.Texts.{rules_of_parts}
-use Rattle.kind_rules.proofs.rule_text.are_rule_parts.Given as goal
+use Rattle.kind_rules.proofs.group_text.are_rule_parts.Given as goal
 
 abbrev pub decreases-parts : goal.decreases-parts
 decreases-parts l = length l.parts

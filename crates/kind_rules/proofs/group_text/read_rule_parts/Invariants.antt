@@ -2,7 +2,7 @@ use Rattle.std.proofs.Common.{◌≡◌, ◌++◌, length, map}
 use Rattle.std.specs.Prelude.{option_map}
 use Rattle.kind_rules.specs.Texts.{rules_of_parts}
 use Rattle.kind_rules.specs.Views.{proved_in}
-use Rattle.kind_rules.proofs.rule_text.read_rule_parts.Given as goal
+use Rattle.kind_rules.proofs.group_text.read_rule_parts.Given as goal
 
 abbrev pub decreases-parts : goal.decreases-parts
 decreases-parts l = length l.parts

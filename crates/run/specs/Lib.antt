@@ -4,3 +4,4 @@ pub mod Halts
 pub mod RunState
 pub mod inside
 pub mod Steps
+pub mod Passages

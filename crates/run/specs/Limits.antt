@@ -8,3 +8,7 @@ run_step_limit = 2 ^ 62
 -- the most steps that a halting record may claim
 abbrev pub halt_step_limit : ℕ
 halt_step_limit = 100000000
+
+-- the most steps that a runner makes by windows of eight cells
+abbrev pub window_step_limit : ℕ
+window_step_limit = 2 ^ 61

@@ -9,6 +9,8 @@ mod halt_finder;
 mod halts_in;
 mod laws;
 mod limits;
+mod passage;
+mod passages;
 mod runner;
 
 pub use halt_finder::HaltFinder;
@@ -16,4 +18,6 @@ pub use halts_in::{Halted, HaltsIn};
 pub use kind_evidence::{Ending, Evidence, NoMemory, Refused, Verdict};
 pub use laws::halts_reads_back;
 pub use limits::{MAX_HALT_STEPS, MAX_RUN_STEPS};
+pub use passage::Passage;
+pub use passages::Passages;
 pub use runner::{Runner, Step};

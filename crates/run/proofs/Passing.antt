@@ -32,8 +32,8 @@ leads_none m state w x t head holds =
     record { tape = t; is = from_zero m _; head = head; holds = holds; others = λ y apart. refl }
 
 -- a step more, on the cell so numbered
-pub leads_more : (m : Machine) (state : ℕ) (w : Window) (steps last cells at : ℕ) (e : Entry) (now : ℕ) → Leads m state w steps last cells (pos at) → at < 8
-    → m last (bit_symbol (bit_at cells at)) ≡ Some e → bit_symbol (bit_at now at) ≡ e.write → ((i : ℕ) → i < 8 → i ≢ at → bit_at now i ≡ bit_at cells i)
+pub leads_more : (m : Machine) (state : ℕ) (w : Window) (steps last cells at : ℕ) (e : Entry) (now : ℕ) → Leads m state w steps last cells (pos at) → at < 16
+    → m last (bit_symbol (bit_at cells at)) ≡ Some e → bit_symbol (bit_at now at) ≡ e.write → ((i : ℕ) → i < 16 → i ≢ at → bit_at now i ≡ bit_at cells i)
     → Leads m state w (steps + 1) e.next.0 now (moved_head (pos at) e.dir)
 leads_more m state w steps last cells at e now leads inside entry here others x t head holds =
     record {
@@ -59,13 +59,13 @@ leads_more m state w steps last cells at e now leads inside entry here others x 
     there L = omega (arith, ints)
     there R = omega (arith, ints)
 
--- what holds at each of eight places, and at any other, holds
-by_window : {P : Type 0} (x y : ℤ) → ((i : ℕ) → i < 8 → y ≡ x +ℤ pos i → P) → (((i : ℕ) → i < 8 → y ≡ x +ℤ pos i → ⊥) → P) → P
+-- what holds at each of sixteen places, and at any other, holds
+by_window : {P : Type 0} (x y : ℤ) → ((i : ℕ) → i < 16 → y ≡ x +ℤ pos i → P) → (((i : ℕ) → i < 16 → y ≡ x +ℤ pos i → ⊥) → P) → P
 by_window x y on off =
     by_lt_z y x
     (λ before. off (λ i less is. absurd (omega (arith, ints, before, is))))
     (λ after. let n = unsigned_abs (y -ℤ x) in
-    elim (cases_lt n 8) [
+    elim (cases_lt n 16) [
       | inl near ↦ on n near (omega (arith, ints, after))
       | inr far ↦ off (λ i less is. absurd (omega (arith, ints, far, is, less)))
     ])
@@ -100,7 +100,7 @@ stands_crossed r w p t stands holds passes crosses limit = record {
     later = from_add (entry_of r.table) r.steps p.steps start r.config stands.at ∙ l.is ∙ ap (λ (v : Tape). Some (record { state = p.state.0; tape = v })) same
 
 -- on its way it stays within the limit
-pub may_cross : (r : RunState) (k at : ℕ) (d : Dir) → OnRun r → r.steps < k → k ≤ window_step_limit → at < 8 → IsWithinLimit (last_place d (r.config.tape.head -ℤ pos at))
+pub may_cross : (r : RunState) (k at : ℕ) (d : Dir) → OnRun r → r.steps < k → k ≤ window_step_limit → at < 16 → IsWithinLimit (last_place d (r.config.tape.head -ℤ pos at))
 may_cross r k at L stands onward limit inside =
     let reach = head_reach (entry_of r.table) r.steps start r.config stands.at in
     record { low = omega (arith, ints, reach.0, onward, limit, inside); high = omega (arith, ints, reach.1, onward, limit, inside) }

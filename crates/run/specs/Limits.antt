@@ -9,6 +9,6 @@ run_step_limit = 2 ^ 62
 abbrev pub halt_step_limit : ℕ
 halt_step_limit = 100000000
 
--- the most steps that a runner makes by windows of eight cells
+-- the most steps that a runner makes by windows of sixteen cells
 abbrev pub window_step_limit : ℕ
 window_step_limit = 2 ^ 61

@@ -1,4 +1,4 @@
--- Passages: what a run does to a window of eight cells until the head leaves it, whatever stands beside it.
+-- Passages: what a run does to a window of sixteen cells until the head leaves it, whatever stands beside it.
 use Rattle.std.specs.Prelude.{◌≡◌, ℕ, ◌+◌, ◌*◌, ◌/◌, ◌%◌, ◌<◌, ℤ, pos, ◌+ℤ◌, List, Some, length, get_or}
 use Rattle.machine_text.specs.Packed.{Packed, entry_of}
 use Rattle.machine_text.specs.declared.transition.Dir.{Dir}
@@ -35,17 +35,17 @@ pub record Passes (m : Machine) (state : ℕ) (window : Window) (p : Passage) : 
 
 -- what is remembered under a number is so: the number says the state, the end at which the head stands, and the cells
 abbrev pub window_numbered : ℕ → Window
-window_numbered k = record { cells = k % 256; at = 7 * (k / 256 % 2) }
+window_numbered k = record { cells = k % 65536; at = 15 * (k / 65536 % 2) }
 
 pub record IsNumber (k state : ℕ) (window : Window) : Type 0 where
-  pub small : k < 4096
-  pub state_is : k / 512 ≡ state
+  pub small : k < 1048576
+  pub state_is : k / 131072 ≡ state
   pub window_is : window_numbered k ≡ window
 
 abbrev pub IsRight : Packed → ℕ → Known → Type 0
 IsRight p k Unknown = Unit {0}
 IsRight p k Stays = Unit {0}
-IsRight p k (Leaves passage) = Passes (entry_of p) (k / 512) (window_numbered k) passage
+IsRight p k (Leaves passage) = Passes (entry_of p) (k / 131072) (window_numbered k) passage
 
 pub record AreRight (p : Packed) (known : List Known) : Type 0 where
   pub each : (k : ℕ) (other : Known) → k < length known → IsRight p k (get_or known k other)

@@ -1,4 +1,4 @@
-// What a run does to eight cells until its head leaves them.
+// What a run does to sixteen cells until its head leaves them.
 ghost use Rattle.std.specs.Prelude.{◌<◌, IfSome};
 ghost use Rattle.machine_text.specs.Packed.{entry_of};
 ghost use Rattle.run.specs.Passages.{Passes};
@@ -6,8 +6,8 @@ ghost use Rattle.run.specs.Passages.{Passes};
 use machine_text::{Dir, State, Table};
 use tape::Window;
 
-// More steps than a head can make within eight cells without coming to the same state, cells and place again.
-const MAX_PASSAGE_STEPS: u32 = 15_000;
+// The most steps of a passage: one that takes longer is carried out step by step.
+const MAX_PASSAGE_STEPS: u32 = 100_000;
 
 /// What becomes of a window when the head has left it.
 #[derive(Clone, Copy, Debug, PartialEq, Eq)]
@@ -17,7 +17,7 @@ pub struct Passage {
     /// The state then.
     pub state: State,
     /// The cells then.
-    pub cells: u8,
+    pub cells: u16,
     /// The side to which the head left.
     pub side: Dir,
 }
@@ -26,7 +26,7 @@ impl Passage {
     /// The passage of a table's run through a window in which it stands; none where it halts there, or stays for ever.
     pub fn of(table: &Table, state: State, window: Window) -> Option<Passage>
         requires state { state.0 < table.now.states }
-        requires at { window.at < 8 }
+        requires at { window.at < 16 }
         ensures passes { IfSome result (Passes (entry_of table.now) state.0 window) }
         ensures state { IfSome result (λ p. p.state.0 < table.now.states) }
     {

@@ -10,7 +10,7 @@ use std::marker::Model;
 use tape::{NoMemory, Window};
 
 // So many numbers of a state, an end of a window, and its cells.
-const NUMBERS: usize = 4_096;
+const NUMBERS: usize = 1_048_576;
 
 /// What is remembered of a state and a window.
 #[derive(Clone, Copy, Debug, PartialEq, Eq)]
@@ -42,7 +42,7 @@ impl Model for Passages {
 
     ghost view = { λ a. a.table };
 
-    ghost invariant = { λ a. (length a.known.items ≡ 4096) × AreRight a.table a.known.items };
+    ghost invariant = { λ a. (length a.known.items ≡ 1048576) × AreRight a.table a.known.items };
 }
 
 impl Passages {
@@ -60,7 +60,7 @@ impl Passages {
     #[inline]
     pub fn through(&mut self, state: State, window: Window) -> Option<Passage>
         requires state { state.0 < self.old.states }
-        requires at { window.at < 8 }
+        requires at { window.at < 16 }
         ensures kept { self.new ≡ self.old }
         ensures passes { IfSome result (Passes (entry_of self.old) state.0 window) }
     {
@@ -78,7 +78,7 @@ impl Passages {
     #[inline(never)]
     fn find(&mut self, number: usize, state: State, window: Window) -> Option<Passage>
         requires state { state.0 < self.old.states }
-        requires at { window.at < 8 }
+        requires at { window.at < 16 }
         requires number { IsNumber number state.0 window }
         ensures kept { self.new ≡ self.old }
         ensures passes { IfSome result (Passes (entry_of self.old) state.0 window) }
@@ -100,8 +100,8 @@ fn number_of(state: State, window: Window) -> Option<usize>
 {
     let side = match window.at {
         0 => 0,
-        7 => 256,
+        15 => 65_536,
         _ => return None,
     };
-    Some(512 * state.0 as usize + side + window.cells as usize)
+    Some(131_072 * state.0 as usize + side + window.cells as usize)
 }

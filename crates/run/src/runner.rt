@@ -118,7 +118,7 @@ impl Runner {
         Ok(Step::Went)
     }
 
-    /// Carries out steps up to time k as `run_to` does, by windows of eight cells: what the run does to one is worked out once, and
+    /// Carries out steps up to time k as `run_to` does, by windows of sixteen cells: what the run does to one is worked out once, and
     /// remembered. A long run that isn't made of sweeps is some ten times as fast so.
     #[inline(never)]
     pub fn run_by_windows(&mut self, k: u64, passages: &mut Passages) -> Result<Step, NoMemory>

@@ -132,21 +132,21 @@ fn lowest(bit: u32, dir: Dir, count: u32) -> u32
     }
 }
 
-// The eight cells of a word from a bit on, as a byte.
-pub(crate) fn byte_at(word: u64, low: u32) -> u64
+// The sixteen cells of a word from a bit on.
+pub(crate) fn window_at(word: u64, low: u32) -> u64
     requires { low < 64 }
-    ensures cells { (i : ℕ) → i < 8 → bit_at result i ≡ bit_at word (low + i) }
-    ensures byte { result < 256 }
+    ensures cells { (i : ℕ) → i < 16 → bit_at result i ≡ bit_at word (low + i) }
+    ensures few { result < 65536 }
 {
-    (word >> low) & 255
+    (word >> low) & 65535
 }
 
-// The word with other eight cells from a bit on, and all others as they are.
-pub(crate) fn with_byte(word: u64, low: u32, byte: u64) -> u64
-    requires low { low + 8 ≤ 64 }
-    requires byte { byte < 256 }
-    ensures here { (i : ℕ) → i < 8 → bit_at result (low + i) ≡ bit_at byte i }
-    ensures others { (j : ℕ) → j < 64 → ((i : ℕ) → i < 8 → j ≢ low + i) → bit_at result j ≡ bit_at word j }
+// The word with other sixteen cells from a bit on, and all others as they are.
+pub(crate) fn with_window(word: u64, low: u32, cells: u64) -> u64
+    requires low { low + 16 ≤ 64 }
+    requires few { cells < 65536 }
+    ensures here { (i : ℕ) → i < 16 → bit_at result (low + i) ≡ bit_at cells i }
+    ensures others { (j : ℕ) → j < 64 → ((i : ℕ) → i < 16 → j ≢ low + i) → bit_at result j ≡ bit_at word j }
 {
-    (word & !(255 << low)) | (byte << low)
+    (word & !(65535 << low)) | (cells << low)
 }

@@ -1,19 +1,19 @@
-// Eight cells at once: the byte of a word in which the head stands.
+// Sixteen cells at once: the quarter of a word in which the head stands.
 ghost use Rattle.std.specs.Prelude.{◌≡◌, ◌<◌, ◌-ℤ◌, pos, OnOk, OnErr};
 ghost use Rattle.tape.specs.Windows.{Crosses, HoldsCells, IsInWindow, last_place};
 ghost use Rattle.tape.specs.Places.{IsWithinLimit};
 ghost use Rattle.machine_text.specs.declared.transition.Dir.TheVariants.{L, R};
 
-use crate::bits::{byte_at, symbol_at, with_byte};
+use crate::bits::{window_at, symbol_at, with_window};
 use crate::tape::{LAST_BIT, NoMemory, Tape, next_word};
 use machine_text::{Dir, Sym};
 
-/// Eight cells side by side, the head on one of them. Windows follow one another from the least place on, so that each cell is in
+/// Sixteen cells side by side, the head on one of them. Windows follow one another from the least place on, so that each cell is in
 /// one of them.
 #[derive(Clone, Copy, Debug, PartialEq, Eq)]
 pub struct Window {
-    /// The cells as a byte, the lowest bit leftmost.
-    pub cells: u8,
+    /// The cells, the leftmost one in the lowest bit.
+    pub cells: u16,
     /// How many of them are left of the head.
     pub at: u32,
 }
@@ -28,7 +28,7 @@ impl Window {
     /// The symbol under the head.
     #[inline]
     pub fn read(&self) -> Sym
-        requires { self.now.at < 8 }
+        requires { self.now.at < 16 }
         ensures { result ≡ bit_symbol (bit_at self.now.cells self.now.at) }
     {
         symbol_at(self.cells as u64, self.at)
@@ -37,10 +37,10 @@ impl Window {
     /// Writes a symbol under the head.
     #[inline]
     pub fn write(&mut self, s: Sym)
-        requires { self.old.at < 8 }
+        requires { self.old.at < 16 }
         ensures at { self.new.at ≡ self.old.at }
         ensures here { bit_symbol (bit_at self.new.cells self.old.at) ≡ s }
-        ensures others { (i : ℕ) → i < 8 → i ≢ self.old.at → bit_at self.new.cells i ≡ bit_at self.old.cells i }
+        ensures others { (i : ℕ) → i < 16 → i ≢ self.old.at → bit_at self.new.cells i ≡ bit_at self.old.cells i }
     {
         match s {
             Sym::Zero => self.cells &= !(1 << self.at),
@@ -51,8 +51,8 @@ impl Window {
     /// The window after its head has moved by one cell to a side; none where it has left it then.
     #[inline]
     pub fn moved(self, side: Dir) -> Option<Window>
-        requires { self.at < 8 }
-        ensures some { IfSome result (λ w. w.cells ≡ self.cells × (w.at < 8) × (moved_head (pos self.at) side ≡ pos w.at)) }
+        requires { self.at < 16 }
+        ensures some { IfSome result (λ w. w.cells ≡ self.cells × (w.at < 16) × (moved_head (pos self.at) side ≡ pos w.at)) }
         ensures none { IfNone result (moved_head (pos self.at) side ≡ place_beyond side (pos 0)) }
     {
         let cells = self.cells;
@@ -62,7 +62,7 @@ impl Window {
                 cells,
                 at: self.at - 1,
             }),
-            Dir::R if self.at == 7 => None,
+            Dir::R if self.at == 15 => None,
             Dir::R => Some(Window {
                 cells,
                 at: self.at + 1,
@@ -78,9 +78,9 @@ impl Tape {
         ensures cells { HoldsCells self.now.ones (self.now.head -ℤ pos result.at) result.cells }
         ensures at { IsInWindow result.at self.now.head }
     {
-        let at = self.bit % 8;
+        let at = self.bit % 16;
         Window {
-            cells: byte_at(self.word, self.bit - at) as u8,
+            cells: window_at(self.word, self.bit - at) as u16,
             at,
         }
     }
@@ -88,7 +88,7 @@ impl Tape {
     /// Puts other cells into the window in which the head stands, `at` cells from its left, and moves the head out of it to a
     /// side. After an error the tape is as it was.
     #[inline]
-    pub fn cross(&mut self, at: u32, cells: u8, side: Dir) -> Result<(), NoMemory>
+    pub fn cross(&mut self, at: u32, cells: u16, side: Dir) -> Result<(), NoMemory>
         requires at { IsInWindow at self.old.head }
         requires limit { IsWithinLimit (last_place side (self.old.head -ℤ pos at)) }
         ensures ok { OnOk result (Crosses at cells side self.old self.new) }
@@ -101,14 +101,14 @@ impl Tape {
     }
 
     #[inline]
-    fn cross_left(&mut self, at: u32, cells: u8) -> Result<(), NoMemory>
+    fn cross_left(&mut self, at: u32, cells: u16) -> Result<(), NoMemory>
         requires at { IsInWindow at self.old.head }
         requires limit { IsWithinLimit (last_place L (self.old.head -ℤ pos at)) }
         ensures ok { OnOk result (Crosses at cells L self.old self.new) }
         ensures err { OnErr result (self.new ≡ self.old) }
     {
         let low = self.bit - at;
-        let word = with_byte(self.word, low, cells as u64);
+        let word = with_window(self.word, low, cells as u64);
         if low > 0 {
             self.bit = low - 1;
             self.word = word;
@@ -121,16 +121,16 @@ impl Tape {
     }
 
     #[inline]
-    fn cross_right(&mut self, at: u32, cells: u8) -> Result<(), NoMemory>
+    fn cross_right(&mut self, at: u32, cells: u16) -> Result<(), NoMemory>
         requires at { IsInWindow at self.old.head }
         requires limit { IsWithinLimit (last_place R (self.old.head -ℤ pos at)) }
         ensures ok { OnOk result (Crosses at cells R self.old self.new) }
         ensures err { OnErr result (self.new ≡ self.old) }
     {
         let low = self.bit - at;
-        let word = with_byte(self.word, low, cells as u64);
-        if low + 8 <= LAST_BIT {
-            self.bit = low + 8;
+        let word = with_window(self.word, low, cells as u64);
+        if low + 16 <= LAST_BIT {
+            self.bit = low + 16;
             self.word = word;
         } else {
             self.word = next_word(&mut self.right, &mut self.left, word)?;

@@ -16,8 +16,8 @@ returns-then-low-gt0-clause-ok c =
     let inside = at.inside in
     let within = c.self.invariant.inside in
     let some = c.if-low-gt0.true in
-    crossed_by L a.block a.bit (a.bit - c.args.at) c.args.at a.left.items a.word c.with_byte-word.result a.right.items c.args.cells c.args.self.now (stored a.block (a.bit - c.args.at - 1) a.left.items c.with_byte-word.result a.right.items) _ c.self.view_is refl
-    (omega (arith, ints, head, place, inside, within)) (omega (arith, ints, head, place, inside, within)) (record { here = c.with_byte-word.ensures.here; others = c.with_byte-word.ensures.others }) (omega (arith, ints, some)) refl
+    crossed_by L a.block a.bit (a.bit - c.args.at) c.args.at a.left.items a.word c.with_window-word.result a.right.items c.args.cells c.args.self.now (stored a.block (a.bit - c.args.at - 1) a.left.items c.with_window-word.result a.right.items) _ c.self.view_is refl
+    (omega (arith, ints, head, place, inside, within)) (omega (arith, ints, head, place, inside, within)) (record { here = c.with_window-word.ensures.here; others = c.with_window-word.ensures.others }) (omega (arith, ints, some)) refl
 
 pub returns-in_ok-self-inside-clause-ok : goal.returns-in_ok-self-inside-clause-ok
 returns-in_ok-self-inside-clause-ok c =
@@ -29,6 +29,6 @@ returns-in_ok-self-inside-clause-ok c =
     let within = c.self.invariant.inside in
     let none = c.if-low-gt0.false in
     let low = c.self.invariant.low in
-    crossed_by L a.block a.bit (a.bit - c.args.at) c.args.at a.left.items a.word c.with_byte-word.result a.right.items c.args.cells c.args.self.now (moved (stored a.block 0 a.left.items c.with_byte-word.result a.right.items) L) _ c.self.view_is
-    (left_edge-nearest a.block _ a.left.items _ a.right.items _ c.with_byte-word.result _ (omega (arith, low)) c.in_ok-self-inside.ensures.entered c.in_ok-self-inside.ensures.left)
-    (omega (arith, ints, head, place, inside, within)) (omega (arith, ints, head, place, inside, within)) (record { here = c.with_byte-word.ensures.here; others = c.with_byte-word.ensures.others }) (omega (arith, ints, none)) refl
+    crossed_by L a.block a.bit (a.bit - c.args.at) c.args.at a.left.items a.word c.with_window-word.result a.right.items c.args.cells c.args.self.now (moved (stored a.block 0 a.left.items c.with_window-word.result a.right.items) L) _ c.self.view_is
+    (left_edge-nearest a.block _ a.left.items _ a.right.items _ c.with_window-word.result _ (omega (arith, low)) c.in_ok-self-inside.ensures.entered c.in_ok-self-inside.ensures.left)
+    (omega (arith, ints, head, place, inside, within)) (omega (arith, ints, head, place, inside, within)) (record { here = c.with_window-word.ensures.here; others = c.with_window-word.ensures.others }) (omega (arith, ints, none)) refl

@@ -15,8 +15,8 @@ returns-then-low-le-LAST_BIT-clause-ok c =
     let place = at.place in
     let inside = at.inside in
     let within = c.self.invariant.inside in
-    crossed_by R a.block a.bit (a.bit - c.args.at) c.args.at a.left.items a.word c.with_byte-word.result a.right.items c.args.cells c.args.self.now (stored a.block (a.bit - c.args.at + 8) a.left.items c.with_byte-word.result a.right.items) _ c.self.view_is refl
-    (omega (arith, ints, head, place, inside, within)) (omega (arith, ints, head, place, inside, within)) (record { here = c.with_byte-word.ensures.here; others = c.with_byte-word.ensures.others }) (omega (arith, ints)) refl
+    crossed_by R a.block a.bit (a.bit - c.args.at) c.args.at a.left.items a.word c.with_window-word.result a.right.items c.args.cells c.args.self.now (stored a.block (a.bit - c.args.at + 16) a.left.items c.with_window-word.result a.right.items) _ c.self.view_is refl
+    (omega (arith, ints, head, place, inside, within)) (omega (arith, ints, head, place, inside, within)) (record { here = c.with_window-word.ensures.here; others = c.with_window-word.ensures.others }) (omega (arith, ints)) refl
 
 pub returns-in_ok-self-inside-clause-ok : goal.returns-in_ok-self-inside-clause-ok
 returns-in_ok-self-inside-clause-ok c =
@@ -27,6 +27,6 @@ returns-in_ok-self-inside-clause-ok c =
     let inside = at.inside in
     let within = c.self.invariant.inside in
     let last = c.if-low-le-LAST_BIT.false in
-    crossed_by R a.block a.bit (a.bit - c.args.at) c.args.at a.left.items a.word c.with_byte-word.result a.right.items c.args.cells c.args.self.now (moved (stored a.block 63 a.left.items c.with_byte-word.result a.right.items) R) _ c.self.view_is
-    (right_edge-nearest a.block _ a.left.items _ a.right.items _ c.with_byte-word.result _ refl c.in_ok-self-inside.ensures.entered c.in_ok-self-inside.ensures.left)
-    (omega (arith, ints, head, place, inside, within)) (omega (arith, ints, head, place, inside, within)) (record { here = c.with_byte-word.ensures.here; others = c.with_byte-word.ensures.others }) (omega (arith, ints, head, place, inside, within, last)) refl
+    crossed_by R a.block a.bit (a.bit - c.args.at) c.args.at a.left.items a.word c.with_window-word.result a.right.items c.args.cells c.args.self.now (moved (stored a.block 63 a.left.items c.with_window-word.result a.right.items) R) _ c.self.view_is
+    (right_edge-nearest a.block _ a.left.items _ a.right.items _ c.with_window-word.result _ refl c.in_ok-self-inside.ensures.entered c.in_ok-self-inside.ensures.left)
+    (omega (arith, ints, head, place, inside, within)) (omega (arith, ints, head, place, inside, within)) (record { here = c.with_window-word.ensures.here; others = c.with_window-word.ensures.others }) (omega (arith, ints, head, place, inside, within, last)) refl

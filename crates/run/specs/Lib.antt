@@ -1,4 +1,6 @@
 pub mod Limits
+pub mod Reach
+pub mod HaltClaim
 pub mod Fields
 pub mod Halts
 pub mod RunState

@@ -10,6 +10,9 @@ use std::alloc::Global;
 use std::marker::Model;
 use tape::{NoMemory, Tape};
 
+// So many steps from which on the memory for passages pays.
+const MANY_STEPS: u64 = 4_000_000;
+
 /// What a step came to.
 #[derive(Clone, Copy, Debug, PartialEq, Eq)]
 pub enum Step {
@@ -135,6 +138,22 @@ impl Runner {
             }
         }
         Ok(Step::Went)
+    }
+
+    /// Carries out steps up to time k as `run_to` does, by windows where there are many of them.
+    pub fn run_far(&mut self, alloc: Global, k: u64) -> Result<Step, NoMemory>
+        requires onward { self.old.steps ≤ k }
+        requires limit { k ≤ window_step_limit }
+        ensures ok { IfOk result (λ step. RunsTo k self.old step self.new) }
+        ensures err { OnErr result (IsBetween k self.old self.new) }
+    {
+        if k < MANY_STEPS {
+            return self.run_to(k);
+        }
+        // Opens the invariant of the runner: it stands on the run of a table.
+        let _ = self.steps();
+        let mut passages = Passages::new(alloc, self.table)?;
+        self.run_by_windows(k, &mut passages)
     }
 
     // Goes through the window in which the run stands, where that ends by time k; else carries out a step, or several.

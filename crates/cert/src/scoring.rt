@@ -36,14 +36,11 @@ impl<'a> Record<'a> {
 fn with_ones(alloc: Global, t: &Table, evidence: HaltsIn) -> Result<HaltsIn, NoMemory>
     ensures { IfOk result (GetsOnes t.now evidence) }
 {
-    if evidence.ones.is_some() {
+    if evidence.ones().is_some() {
         return Ok(evidence);
     }
     match evidence.halted(alloc, t) {
-        Ok(halted) => Ok(HaltsIn {
-            steps: evidence.steps,
-            ones: Some(halted.ones),
-        }),
+        Ok(halted) => Ok(evidence.with_ones(halted.ones)),
         Err(Refused::NoMemory) => Err(NoMemory),
         Err(_) => Ok(evidence),
     }

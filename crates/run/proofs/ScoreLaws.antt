@@ -18,7 +18,8 @@ short_where : (o : Option ℕ) (n : ℕ) → n < 2 ^ 64 → IfSome o (λ s. s �
 short_where None n small is = tt
 short_where (Some s) n small is = omega (arith, is)
 
-in_reach : (r : Reach) (k : ℕ) → IsWithinReach r k → (k ≤ late_step_limit) × IsInReach r k
+-- a number of steps that is carried out is one of its reach
+pub in_reach : (r : Reach) (k : ℕ) → IsWithinReach r k → (k ≤ late_step_limit) × IsInReach r k
 in_reach Early k within = (omega (arith, within), tt)
 in_reach Late k within = (within.1, within.0)
 

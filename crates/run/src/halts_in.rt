@@ -43,6 +43,14 @@ impl HaltsIn {
         HaltsIn { steps, ones, reach }
     }
 
+    /// The claim by the letter `H`.
+    pub fn early(steps: u64, ones: Option<u64>) -> HaltsIn
+        ensures { result ≡ record { steps = steps; ones = ones; reach = Reach.Early } }
+    {
+        let reach = Reach::Early;
+        HaltsIn { steps, ones, reach }
+    }
+
     // The claim of so many steps and ones, where the reach has them.
     pub(crate) fn within(reach: Reach, steps: u64, ones: Option<u64>) -> Result<HaltsIn, FieldFault>
         ensures { result ≡ with_steps reach steps ones }

@@ -2,7 +2,7 @@
 use Rattle.std.proofs.Common.{◌≡◌, Option, Some, IsSome, refl, sym, ap, ◌∙◌, ℕ, None, inl, inr}
 use Rattle.std.specs.Prelude.{option_map}
 use Rattle.machine_text.specs.Packed.{Packed}
-use Rattle.run.specs.HaltClaim.{HaltClaim}
+use Rattle.run.specs.declared.halts_in.HaltsIn.{HaltsIn}
 use Rattle.run.specs.declared.reach.Reach.{Reach}
 use Rattle.run.specs.Halts.{HaltsAsClaimed}
 use Rattle.kind_evidence.specs.Verdict.{ending_of}
@@ -77,10 +77,10 @@ ones_stand : (p : Packed) (k : ℕ) (o : Option ℕ) (r : Reach) → IsSome o �
 ones_stand p k None r some stands = absurd (cc)
 ones_stand p k (Some s) r some stands = ap (λ n. record { steps = k; ones = Some n; reach = r }) (sym stands.score)
 
-pub gets_none : (p : Packed) (e : HaltClaim) → IsSome e.ones → GetsOnes p e e
+pub gets_none : (p : Packed) (e : HaltsIn) → IsSome e.ones → GetsOnes p e e
 gets_none p e some = inr (refl, λ within stands. ones_stand p e.steps e.ones e.reach some stands)
 
-pub gets_score : (p : Packed) (e f : HaltClaim) → GetsOnes p e f → GetsScore (record { table = p; claim = HaltsClaim e }) (record { table = p; claim = HaltsClaim f })
+pub gets_score : (p : Packed) (e f : HaltsIn) → GetsOnes p e f → GetsScore (record { table = p; claim = HaltsClaim e }) (record { table = p; claim = HaltsClaim f })
 gets_score p e f (inl found) = inl (
   record { within = found.0; narrow = λ wide. wide; stands = found.1 },
   ap (λ x. record { table = p; claim = HaltsClaim x }) found.2,
@@ -90,7 +90,7 @@ gets_score p e f (inr same) = inr (
   λ certified. ap (λ x. record { table = p; claim = HaltsClaim x }) (same.1 certified.within certified.stands),
 )
 
-pub gets_halting : (r : Record) (e f : HaltClaim) → r.certificate ≡ Halts e → GetsOnes r.table e f → GetsScore (recorded r) (record { table = r.table; claim = HaltsClaim f })
+pub gets_halting : (r : Record) (e f : HaltsIn) → r.certificate ≡ Halts e → GetsOnes r.table e f → GetsScore (recorded r) (record { table = r.table; claim = HaltsClaim f })
 gets_halting r e f is ones = rw is (gets_score r.table e f ones)
 
 -- what gets its score has it, where it is certified

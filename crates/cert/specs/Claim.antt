@@ -3,7 +3,7 @@ use Rattle.std.specs.Prelude.{ℕ, Option, Some, None}
 use Rattle.machine_text.specs.Packed.{Packed, entry_of}
 use Rattle.law_turing.specs.Score.{score_at}
 use Rattle.run.specs.Halts.{halts_meaning}
-use Rattle.run.specs.HaltClaim.{HaltClaim}
+use Rattle.run.specs.declared.halts_in.HaltsIn.{HaltsIn}
 use Rattle.kind_evidence.specs.Meaning.{Meaning}
 use Rattle.kind_evidence.specs.declared.verdicts.Ending.{Ending}
 use Rattle.kind_evidence.specs.declared.verdicts.Ending.TheVariants.{Halts as Halting, Never as NeverEnding}
@@ -13,7 +13,7 @@ use Rattle.cert.specs.Reason.{Reason, reason_meaning}
 
 -- it halts, it never does, or nothing is claimed
 pub data Claim : Type 0 where
-  HaltsClaim : HaltClaim → Claim
+  HaltsClaim : HaltsIn → Claim
   NeverClaim : Reason → Claim
   NoClaim : Claim
 

@@ -4,12 +4,12 @@ use Rattle.machine_text.specs.Packed.{Packed, entry_of}
 use Rattle.law_turing.specs.Score.{score_at}
 use Rattle.run.specs.Halts.{HaltsAsClaimed}
 use Rattle.run.specs.Reach.{IsWithinReach}
-use Rattle.run.specs.HaltClaim.{HaltClaim}
+use Rattle.run.specs.declared.halts_in.HaltsIn.{HaltsIn}
 use Rattle.cert.specs.Certified.{IsCertified}
 use Rattle.cert.specs.Claim.{Claim, HaltsClaim, NeverClaim, NoClaim, Recorded}
 
 -- a number of steps with the score that the table then has
-abbrev pub scored_count : Packed → HaltClaim → HaltClaim
+abbrev pub scored_count : Packed → HaltsIn → HaltsIn
 scored_count p e = record { steps = e.steps; ones = Some (score_at (entry_of p) e.steps); reach = e.reach }
 
 -- the claim that a table halts with the table's score; every other claim as it is
@@ -34,7 +34,7 @@ without_score r = record { table = r.table; claim = unscored r.claim }
 abbrev pub GetsScore : Recorded → Recorded → Type 0
 GetsScore r s = (IsCertified r × (s ≡ with_score r)) ⊎ ((s ≡ r) × (IsCertified r → with_score r ≡ r))
 
-abbrev pub GetsOnes : Packed → HaltClaim → HaltClaim → Type 0
+abbrev pub GetsOnes : Packed → HaltsIn → HaltsIn → Type 0
 GetsOnes p e f =
     (IsWithinReach e.reach e.steps × HaltsAsClaimed e p × (f ≡ scored_count p e))
     ⊎ ((f ≡ e) × (IsWithinReach e.reach e.steps → HaltsAsClaimed e p → scored_count p e ≡ e))

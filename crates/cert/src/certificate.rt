@@ -128,7 +128,7 @@ impl Certificate<'_> {
         ensures { result ≡ ending_by (claim_of self.now) }
     {
         match self {
-            Certificate::Halts(evidence) => Some(Ending::Halts(evidence.steps())),
+            Certificate::Halts(evidence) => Some(Ending::Halts(evidence.steps)),
             Certificate::Undecided => None,
             _ => Some(Ending::Never),
         }
@@ -139,7 +139,7 @@ impl Certificate<'_> {
         ensures { result ≡ score_by (claim_of self.now) }
     {
         match self {
-            Certificate::Halts(evidence) => evidence.ones(),
+            Certificate::Halts(evidence) => evidence.ones,
             _ => None,
         }
     }
@@ -172,7 +172,7 @@ impl Certificate<'_> {
         ensures one { length result.now ≡ 1 }
     {
         match self {
-            Certificate::Halts(evidence) => evidence.reach().letter(),
+            Certificate::Halts(evidence) => evidence.reach.letter(),
             Certificate::Cycle(_) => b"C",
             Certificate::Translated(_) => b"T",
             Certificate::Backward(_) => b"B",
@@ -227,7 +227,7 @@ impl OwnedCertificate {
         ensures { result ≡ ending_by (owned_claim self.now) }
     {
         match self {
-            OwnedCertificate::Halts(evidence) => Some(Ending::Halts(evidence.steps())),
+            OwnedCertificate::Halts(evidence) => Some(Ending::Halts(evidence.steps)),
             OwnedCertificate::Undecided => None,
             _ => Some(Ending::Never),
         }

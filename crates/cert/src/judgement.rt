@@ -54,7 +54,7 @@ pub fn judge_on(alloc: Global, r: &Record) -> Result<Judged, Refused>
             let halted = evidence.halted(alloc, &r.table)?;
             Ok(Judged {
                 verdict: Some(Verdict::Halts {
-                    steps: evidence.steps(),
+                    steps: evidence.steps,
                     ones: halted.ones,
                 }),
                 halts_on: Some(halted.pair),

@@ -36,7 +36,7 @@ impl<'a> Record<'a> {
 fn with_ones(alloc: Global, t: &Table, evidence: HaltsIn) -> Result<HaltsIn, NoMemory>
     ensures { IfOk result (GetsOnes t.now evidence) }
 {
-    if evidence.ones().is_some() {
+    if evidence.ones.is_some() {
         return Ok(evidence);
     }
     match evidence.halted(alloc, t) {

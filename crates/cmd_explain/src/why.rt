@@ -117,8 +117,8 @@ fn right_of_claim(alloc: Global, r: &Record) -> Result<Option<HaltsIn>, NoMemory
 }
 
 fn right_words(alloc: Global, e: &HaltsIn) -> Result<String, NoMemory> {
-    let steps = Quantity::of(e.steps(), "step");
-    let ones = Quantity::of(e.ones().unwrap_or(0), "one");
+    let steps = Quantity::of(e.steps, "step");
+    let ones = Quantity::of(e.ones.unwrap_or(0), "one");
     format!(in alloc; "it halts after {steps} with {ones}")
 }
 

@@ -93,7 +93,7 @@ fn count_steps(counts: &mut [u64], certificate: &Certificate<'_>)
         ≡ slice_index counts.old k + (if halts_from k (claim_of certificate.now) then 1 else 0) }
 {
     match certificate {
-        Certificate::Halts(e) => count_power(counts, e.steps()),
+        Certificate::Halts(e) => count_power(counts, e.steps),
         _ => {}
     }
 }

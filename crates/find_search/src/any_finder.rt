@@ -91,7 +91,7 @@ impl Searcher for Finders<AnyFinder<'_>> {
         }
         match &record.certificate {
             OwnedCertificate::Undecided => false,
-            OwnedCertificate::Halts(halts) => is_late || halts.steps() > dear,
+            OwnedCertificate::Halts(halts) => is_late || halts.steps > dear,
             OwnedCertificate::Cycle(cycle) => is_late || cycle.j > dear,
             OwnedCertificate::Translated(translated) => is_late || translated.j > dear,
             _ => is_late,

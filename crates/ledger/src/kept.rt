@@ -140,12 +140,12 @@ fn small(certificate: &OwnedCertificate, on: Option<Pair>, parent: u32) -> Optio
     ensures parent { IfSome result (λ kept. kept_parent kept ≡ parent) }
 {
     match (certificate, on) {
-        (OwnedCertificate::Halts(evidence), Some(on)) if evidence.reach() == Reach::Early => {
+        (OwnedCertificate::Halts(evidence), Some(on)) if evidence.reach == Reach::Early => {
             Some(Kept::Halts {
                 on,
                 parent,
-                steps: small_number(evidence.steps())?,
-                ones: small_number(evidence.ones()?)?,
+                steps: small_number(evidence.steps)?,
+                ones: small_number(evidence.ones?)?,
             })
         }
         (OwnedCertificate::Cycle(evidence), None) => Some(Kept::Cycle {

@@ -4,14 +4,14 @@ use Rattle.std.specs.Prelude.{decimal}
 use Rattle.text.specs.Fields.{AreFields}
 use Rattle.text.proofs.Numbers.{decimal_value-decimal, length_of_number}
 use Rattle.text.proofs.Spaced.{number_is_field, and_field, no_fields, length-spaced}
-use Rattle.run.specs.HaltClaim.{HaltClaim}
+use Rattle.run.specs.declared.halts_in.HaltsIn.{HaltsIn}
 use Rattle.run.specs.Fields.{AreShort, halts_by, halts_fields, with_steps}
 use Rattle.run.specs.Reach.{IsInReach}
 use Rattle.run.specs.declared.reach.Reach.{Reach}
 use Rattle.run.specs.declared.reach.Reach.TheVariants.{Early, Late}
 use Rattle.std.proofs.lemmas.Bool.Decides.{nat_tests}
 
-abbrev claim : Reach → ℕ → Option ℕ → HaltClaim
+abbrev claim : Reach → ℕ → Option ℕ → HaltsIn
 claim r k o = record { steps = k; ones = o; reach = r }
 
 with_reach : (r : Reach) (k : ℕ) (o : Option ℕ) → IsInReach r k → with_steps r k o ≡ Ok (claim r k o)
@@ -32,8 +32,8 @@ are_fields r k (Some s) short = record {
   short = omega (arith, length-spaced (decimal k) (decimal s ∷ []), length-spaced (decimal s) [], length_of_number k short.0, length_of_number s short.1);
 }
 
-pub halts_back : (e : HaltClaim) → AreShort e → halts_by e.reach (halts_fields e) ≡ Ok e
+pub halts_back : (e : HaltsIn) → AreShort e → halts_by e.reach (halts_fields e) ≡ Ok e
 halts_back e = read_back e.reach e.steps e.ones
 
-pub halts_are_fields : (e : HaltClaim) → AreShort e → AreFields (halts_fields e)
+pub halts_are_fields : (e : HaltsIn) → AreShort e → AreFields (halts_fields e)
 halts_are_fields e = are_fields e.reach e.steps e.ones

@@ -1,6 +1,5 @@
 pub mod Limits
 pub mod Reach
-pub mod HaltClaim
 pub mod Fields
 pub mod Halts
 pub mod RunState

@@ -29,11 +29,11 @@ impl HaltsIn {
         ensures seen { result ≡ Err Refused.NotSeen → ⊥ }
         ensures memory { result ≡ Err Refused.NoMemory → IsWithinReach self.now.reach self.now.steps }
     {
-        if !self.reach().allows(self.steps()) {
+        if !self.reach.allows(self.steps) {
             return Err(Refused::TooLong);
         }
-        let halted = run_out(alloc, t, self.steps())?;
-        match self.ones() {
+        let halted = run_out(alloc, t, self.steps)?;
+        match self.ones {
             Some(ones) if ones != halted.ones => Err(Refused::Fails),
             _ => Ok(halted),
         }
@@ -79,7 +79,7 @@ impl Evidence for HaltsIn {
     fn check(&self, alloc: Global, t: &Table) -> Result<Verdict, Refused> {
         let halted = self.halted(alloc, t)?;
         Ok(Verdict::Halts {
-            steps: self.steps(),
+            steps: self.steps,
             ones: halted.ones,
         })
     }

@@ -21,14 +21,18 @@ impl HaltsIn {
         HaltsIn::within(reach, number_in(steps)?, Some(number_in(ones)?))
     }
 
-    /// Appends the fields of a record, each behind a space. Where memory is refused, a beginning of them.
+    /// Appends the fields of a record, each behind a space. Where memory is refused, a beginning of them; nothing of a claim that
+    /// its letter can't say, which none is that was read, searched or made by `of`.
     pub fn append_fields(&self, out: &mut Vec<u8>) -> Result<(), NoMemory>
         ensures ok { OnOk result (out.new.items ≡ out.old.items ++ spaced (halts_fields self.now)) }
         ensures writable { OnOk result (AreShort self.now) }
         ensures kept { take (length out.old.items) out.new.items ≡ out.old.items }
     {
-        append_number_field(self.steps(), out)?;
-        match self.ones() {
+        if !self.reach.has(self.steps) {
+            return Err(NoMemory);
+        }
+        append_number_field(self.steps, out)?;
+        match self.ones {
             Some(ones) => append_number_field(ones, out),
             None => Ok(()),
         }

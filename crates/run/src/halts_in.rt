@@ -1,34 +1,21 @@
 // The claim that a table halts, and what comes of its run.
 ghost use Rattle.std.specs.Prelude.{◌≡◌, ◌≤◌, Some, None};
 ghost use Rattle.run.specs.Limits.{late_step_limit};
-ghost use Rattle.run.specs.Reach.{IsInReach, IsWithinReach};
+ghost use Rattle.run.specs.Reach.{IsWithinReach};
 ghost use Rattle.run.specs.Fields.{with_steps};
 
 use crate::reach::Reach;
 use machine_text::Pair;
-use std::marker::Model;
 use text::FieldFault;
 
 /// The claim that a table halts in so many steps, as many as its reach has, and, where that is claimed too, with so many
 /// ones.
 #[derive(Clone, Copy, Debug, PartialEq, Eq)]
 pub struct HaltsIn {
-    steps: u64,
-    ones: Option<u64>,
-    reach: Reach,
-}
-
-impl Model for HaltsIn {
-    ghost use Rattle.run.specs.Reach.{IsInReach};
-    ghost use Rattle.run.specs.HaltClaim.{HaltClaim};
-
-    ghost Value = { HaltClaim };
-
-    ghost view = { λ a. record { steps = a.steps; ones = a.ones; reach = a.reach } };
-
-    ghost invariant = { λ a. IsInReach a.reach a.steps };
-
-    ghost inverse = { λ c. record { steps = c.steps; ones = c.ones; reach = c.reach } };
+    pub steps: u64,
+    pub ones: Option<u64>,
+    /// By which letter that is claimed.
+    pub reach: Reach,
 }
 
 impl HaltsIn {
@@ -77,28 +64,6 @@ impl HaltsIn {
         ensures { result ≡ record { steps = self.steps; ones = None; reach = self.reach } }
     {
         HaltsIn { ones: None, ..self }
-    }
-
-    /// In how many steps it is claimed to halt; the halting step counts.
-    pub fn steps(&self) -> u64
-        ensures steps { result ≡ self.now.steps }
-        ensures reach { IsInReach self.now.reach result }
-    {
-        self.steps
-    }
-
-    /// With how many ones, where that is claimed too.
-    pub fn ones(&self) -> Option<u64>
-        ensures { result ≡ self.now.ones }
-    {
-        self.ones
-    }
-
-    /// How late that is, and by which letter a record says so.
-    pub fn reach(&self) -> Reach
-        ensures { result ≡ self.now.reach }
-    {
-        self.reach
     }
 }
 

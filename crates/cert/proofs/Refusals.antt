@@ -3,7 +3,7 @@ use Rattle.std.proofs.Common.{◌≡◌, ◌≢◌, ◌≤◌, refl, inl, inr}
 use Rattle.machine_text.specs.Packed.{Packed}
 use Rattle.run.specs.declared.halts_in.HaltsIn.{HaltsIn}
 use Rattle.run.specs.Halts.{HaltsAsClaimed}
-use Rattle.run.specs.Limits.{halt_step_limit}
+use Rattle.run.specs.Reach.{IsWithinReach}
 use Rattle.kind_evidence.specs.declared.verdicts.Refused.{Refused}
 use Rattle.kind_evidence.specs.declared.verdicts.Refused.TheVariants.{Fails, TooLong, TooWide, NotSeen, NoMemory}
 use Rattle.cert.specs.Claim.{Recorded, HaltsClaim, MayOverflow}
@@ -20,10 +20,10 @@ refused_or_certified NotSeen r refused certified = absurd refused
 refused_or_certified NoMemory r refused certified = absurd refused
 
 -- a halting table's record is certified, or refused, as its check says
-pub halts_certified : (r : Record) (e : HaltsIn) → r.certificate ≡ Halts e → e.steps ≤ halt_step_limit → HaltsAsClaimed e r.table → IsCertified (recorded r)
+pub halts_certified : (r : Record) (e : HaltsIn) → r.certificate ≡ Halts e → IsWithinReach e.reach e.steps → HaltsAsClaimed e r.table → IsCertified (recorded r)
 halts_certified r e is within stands = rw is (record { within = within; narrow = λ wide. wide; stands = stands })
 
-refused_for : (f : Refused) (e : HaltsIn) (p : Packed) → (f ≡ Fails → (e.steps ≤ halt_step_limit) × (HaltsAsClaimed e p → ⊥)) → (f ≡ TooLong → e.steps ≤ halt_step_limit → ⊥) → (f ≡ TooWide → ⊥)
+refused_for : (f : Refused) (e : HaltsIn) (p : Packed) → (f ≡ Fails → IsWithinReach e.reach e.steps × (HaltsAsClaimed e p → ⊥)) → (f ≡ TooLong → IsWithinReach e.reach e.steps → ⊥) → (f ≡ TooWide → ⊥)
     → (f ≡ NotSeen → ⊥) → f ≢ NoMemory → IsRefusedBy f (record { table = p; claim = HaltsClaim e })
 refused_for Fails e p fails long wide seen memory = ((fails refl).0, (λ w. w), (fails refl).1)
 refused_for TooLong e p fails long wide seen memory = long refl
@@ -31,6 +31,6 @@ refused_for TooWide e p fails long wide seen memory = absurd (wide refl)
 refused_for NotSeen e p fails long wide seen memory = absurd (seen refl)
 refused_for NoMemory e p fails long wide seen memory = memory refl
 
-pub halts_refused : (r : Record) (e : HaltsIn) (f : Refused) → r.certificate ≡ Halts e → (f ≡ Fails → (e.steps ≤ halt_step_limit) × (HaltsAsClaimed e r.table → ⊥)) → (f ≡ TooLong → e.steps ≤ halt_step_limit → ⊥) → (f ≡ TooWide → ⊥)
+pub halts_refused : (r : Record) (e : HaltsIn) (f : Refused) → r.certificate ≡ Halts e → (f ≡ Fails → IsWithinReach e.reach e.steps × (HaltsAsClaimed e r.table → ⊥)) → (f ≡ TooLong → IsWithinReach e.reach e.steps → ⊥) → (f ≡ TooWide → ⊥)
     → (f ≡ NotSeen → ⊥) → f ≢ NoMemory → IsRefusedBy f (recorded r)
 halts_refused r e f is fails long wide seen memory = rw is (refused_for f e r.table fails long wide seen memory)

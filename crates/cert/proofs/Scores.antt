@@ -3,6 +3,7 @@ use Rattle.std.proofs.Common.{◌≡◌, Option, Some, IsSome, refl, sym, ap, �
 use Rattle.std.specs.Prelude.{option_map}
 use Rattle.machine_text.specs.Packed.{Packed}
 use Rattle.run.specs.declared.halts_in.HaltsIn.{HaltsIn}
+use Rattle.run.specs.declared.reach.Reach.{Reach}
 use Rattle.run.specs.Halts.{HaltsAsClaimed}
 use Rattle.kind_evidence.specs.Verdict.{ending_of}
 use Rattle.cert.specs.Claim.{Claim, HaltsClaim, NeverClaim, NoClaim, Recorded, ending_by, shown_by}
@@ -72,12 +73,12 @@ pub unscored_certified : (r : Recorded) → IsCertified r → IsCertified (witho
 unscored_certified r = certified_unscored r.table r.claim
 
 -- a score that stands is the table's
-ones_stand : (p : Packed) (k : ℕ) (o : Option ℕ) → IsSome o → HaltsAsClaimed (record { steps = k; ones = o }) p → scored_count p (record { steps = k; ones = o }) ≡ record { steps = k; ones = o }
-ones_stand p k None some stands = absurd (cc)
-ones_stand p k (Some s) some stands = ap (λ n. record { steps = k; ones = Some n }) (sym stands.score)
+ones_stand : (p : Packed) (k : ℕ) (o : Option ℕ) (r : Reach) → IsSome o → HaltsAsClaimed (record { steps = k; ones = o; reach = r }) p → scored_count p (record { steps = k; ones = o; reach = r }) ≡ record { steps = k; ones = o; reach = r }
+ones_stand p k None r some stands = absurd (cc)
+ones_stand p k (Some s) r some stands = ap (λ n. record { steps = k; ones = Some n; reach = r }) (sym stands.score)
 
 pub gets_none : (p : Packed) (e : HaltsIn) → IsSome e.ones → GetsOnes p e e
-gets_none p e some = inr (refl, λ within stands. ones_stand p e.steps e.ones some stands)
+gets_none p e some = inr (refl, λ within stands. ones_stand p e.steps e.ones e.reach some stands)
 
 pub gets_score : (p : Packed) (e f : HaltsIn) → GetsOnes p e f → GetsScore (record { table = p; claim = HaltsClaim e }) (record { table = p; claim = HaltsClaim f })
 gets_score p e f (inl found) = inl (

@@ -10,6 +10,8 @@ use Rattle.text.specs.Parts.{parts_of}
 use Rattle.text.specs.declared.fields.FieldFault.{FieldFault}
 use Rattle.text.specs.declared.fields.FieldFault.TheVariants.{BadKind as NoKind}
 use Rattle.run.specs.Fields.{halts_by, halts_fields}
+use Rattle.run.specs.Reach.{letter_of}
+use Rattle.run.specs.declared.reach.Reach.TheVariants.{Early, Late}
 use Rattle.cert.specs.Limits.{record_byte_limit}
 use Rattle.cert.specs.declared.record_fault.RecordFault.{RecordFault}
 use Rattle.cert.specs.declared.record_fault.RecordFault.TheVariants.{BadTable, BadKind, TooLong}
@@ -25,7 +27,8 @@ undecided_by fields = Err NoKind
 -- the claim that a letter with fields makes, for a table of n states
 abbrev pub claim_by : ℕ → List ℕ → List (List ℕ) → Result Claim FieldFault
 claim_by n letter fields =
-    if bytes_eq letter (codes "H") then made_of HaltsClaim (halts_by fields)
+    if bytes_eq letter (codes "H") then made_of HaltsClaim (halts_by Early fields)
+    else if bytes_eq letter (codes "L") then made_of HaltsClaim (halts_by Late fields)
     else if bytes_eq letter (codes "U") then undecided_by fields
     else made_of NeverClaim (reason_by n letter fields)
 
@@ -52,7 +55,7 @@ record_of text = if nat_lt record_byte_limit (length text) then Err TooLong else
 
 -- the kind of a claim as it is written
 abbrev pub kind_text : Claim → List ℕ
-kind_text (HaltsClaim e) = codes "H"
+kind_text (HaltsClaim e) = letter_of e.reach
 kind_text (NeverClaim r) = reason_letter r
 kind_text NoClaim = codes "U"
 

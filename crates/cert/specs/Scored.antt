@@ -1,16 +1,16 @@
 -- Records of tables that halt with their score, and without.
-use Rattle.std.specs.Prelude.{◌≡◌, ◌≤◌, ◌⊎◌, Some, None}
+use Rattle.std.specs.Prelude.{◌≡◌, ◌⊎◌, Some, None}
 use Rattle.machine_text.specs.Packed.{Packed, entry_of}
 use Rattle.law_turing.specs.Score.{score_at}
 use Rattle.run.specs.Halts.{HaltsAsClaimed}
-use Rattle.run.specs.Limits.{halt_step_limit}
+use Rattle.run.specs.Reach.{IsWithinReach}
 use Rattle.run.specs.declared.halts_in.HaltsIn.{HaltsIn}
 use Rattle.cert.specs.Certified.{IsCertified}
 use Rattle.cert.specs.Claim.{Claim, HaltsClaim, NeverClaim, NoClaim, Recorded}
 
 -- a number of steps with the score that the table then has
 abbrev pub scored_count : Packed → HaltsIn → HaltsIn
-scored_count p e = record { steps = e.steps; ones = Some (score_at (entry_of p) e.steps) }
+scored_count p e = record { steps = e.steps; ones = Some (score_at (entry_of p) e.steps); reach = e.reach }
 
 -- the claim that a table halts with the table's score; every other claim as it is
 abbrev pub scored : Packed → Claim → Claim
@@ -20,7 +20,7 @@ scored p NoClaim = NoClaim
 
 -- the claim that a table halts without a score; every other claim as it is
 abbrev pub unscored : Claim → Claim
-unscored (HaltsClaim e) = HaltsClaim (record { steps = e.steps; ones = None })
+unscored (HaltsClaim e) = HaltsClaim (record { steps = e.steps; ones = None; reach = e.reach })
 unscored (NeverClaim r) = NeverClaim r
 unscored NoClaim = NoClaim
 
@@ -36,5 +36,5 @@ GetsScore r s = (IsCertified r × (s ≡ with_score r)) ⊎ ((s ≡ r) × (IsCer
 
 abbrev pub GetsOnes : Packed → HaltsIn → HaltsIn → Type 0
 GetsOnes p e f =
-    ((e.steps ≤ halt_step_limit) × HaltsAsClaimed e p × (f ≡ scored_count p e))
-    ⊎ ((f ≡ e) × (e.steps ≤ halt_step_limit → HaltsAsClaimed e p → scored_count p e ≡ e))
+    (IsWithinReach e.reach e.steps × HaltsAsClaimed e p × (f ≡ scored_count p e))
+    ⊎ ((f ≡ e) × (IsWithinReach e.reach e.steps → HaltsAsClaimed e p → scored_count p e ≡ e))

@@ -13,14 +13,15 @@ use kind_named::Named;
 use kind_rules::{OwnedRules, Rules};
 use loops::{Cycle, Translated};
 use ngram_cps::{Ngram, OwnedNgram};
-use run::HaltsIn;
+use run::{HaltsIn, Reach};
 use std::alloc::Global;
 use text::{FieldFault, Parts, end_of, next_field};
 
 /// What is put forward for a table.
 #[derive(Clone, Copy, Debug, PartialEq, Eq)]
 pub enum Certificate<'a> {
-    /// `H k s`: it halts in k steps, with s ones on its tape then; `H k` says nothing of the ones.
+    /// `H k s`, and `L k s` where k is above 100,000,000: it halts in k steps, with s ones on its tape then; `H k` and `L k` say
+    /// nothing of the ones.
     Halts(HaltsIn),
     /// `C i j`: the same configuration at the times i and j.
     Cycle(Cycle),
@@ -78,7 +79,9 @@ impl<'a> Certificate<'a> {
     {
         let letter = next_field(&mut parts)?;
         if letter == b"H".as_slice() {
-            Ok(Certificate::Halts(HaltsIn::read(parts)?))
+            Ok(Certificate::Halts(HaltsIn::read(Reach::Early, parts)?))
+        } else if letter == b"L".as_slice() {
+            Ok(Certificate::Halts(HaltsIn::read(Reach::Late, parts)?))
         } else if letter == b"U".as_slice() {
             undecided(parts)
         } else {
@@ -169,7 +172,7 @@ impl Certificate<'_> {
         ensures one { length result.now ≡ 1 }
     {
         match self {
-            Certificate::Halts(_) => b"H",
+            Certificate::Halts(evidence) => evidence.reach.letter(),
             Certificate::Cycle(_) => b"C",
             Certificate::Translated(_) => b"T",
             Certificate::Backward(_) => b"B",
@@ -238,10 +241,7 @@ impl OwnedCertificate {
     {
         match (self, shown) {
             (OwnedCertificate::Halts(evidence), Some(Verdict::Halts { ones, .. })) => {
-                OwnedCertificate::Halts(HaltsIn {
-                    steps: evidence.steps,
-                    ones: Some(ones),
-                })
+                OwnedCertificate::Halts(evidence.with_ones(ones))
             }
             (certificate, _) => certificate,
         }

@@ -40,10 +40,7 @@ fn with_ones(alloc: Global, t: &Table, evidence: HaltsIn) -> Result<HaltsIn, NoM
         return Ok(evidence);
     }
     match evidence.halted(alloc, t) {
-        Ok(halted) => Ok(HaltsIn {
-            steps: evidence.steps,
-            ones: Some(halted.ones),
-        }),
+        Ok(halted) => Ok(evidence.with_ones(halted.ones)),
         Err(Refused::NoMemory) => Err(NoMemory),
         Err(_) => Ok(evidence),
     }

@@ -106,7 +106,7 @@ pub fn words_of_refusal(alloc: Global, r: &Record, why: Refused) -> Result<Strin
     }
 }
 
-// When a table halts that is said to, if it does within the limit of records.
+// When a table halts that is said to, if it does within the limit of records `H`.
 fn right_of_claim(alloc: Global, r: &Record) -> Result<Option<HaltsIn>, NoMemory> {
     match &r.certificate {
         Certificate::Halts(_) => {

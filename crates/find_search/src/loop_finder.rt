@@ -110,10 +110,7 @@ impl LoopFinder {
     fn halting(&self, runner: &Runner, t: &Table) -> Result<Option<Decided>, NoMemory>
         ensures { IfOk result (λ o. IfSome o (IsShownRecord t.now)) }
     {
-        let halts = HaltsIn {
-            steps: runner.steps() + 1,
-            ones: Some(score(runner)),
-        };
+        let halts = HaltsIn::early(runner.steps() + 1, Some(score(runner)));
         Decided::by(self.alloc, t, OwnedCertificate::Halts(halts))
     }
 

@@ -9,7 +9,7 @@ use cert::{Certificate, OwnedCertificate};
 use kind_evidence::{Ending, NoMemory};
 use loops::{Cycle, Translated};
 use machine_text::{Dir, Pair};
-use run::HaltsIn;
+use run::{HaltsIn, Reach};
 use std::alloc::Global;
 
 // A certificate, the pair on which its table halts, and the place of the record of the table's parent. Nearly all
@@ -87,10 +87,9 @@ impl Kept {
         ensures { claim_of result ≡ owned_claim (kept_certificate self.now) }
     {
         match self {
-            Kept::Halts { steps, ones, .. } => Certificate::Halts(HaltsIn {
-                steps: *steps as u64,
-                ones: Some(*ones as u64),
-            }),
+            Kept::Halts { steps, ones, .. } => {
+                Certificate::Halts(HaltsIn::early(*steps as u64, Some(*ones as u64)))
+            }
             Kept::Cycle { i, j, .. } => Certificate::Cycle(Cycle {
                 i: *i as u64,
                 j: *j as u64,
@@ -141,12 +140,14 @@ fn small(certificate: &OwnedCertificate, on: Option<Pair>, parent: u32) -> Optio
     ensures parent { IfSome result (λ kept. kept_parent kept ≡ parent) }
 {
     match (certificate, on) {
-        (OwnedCertificate::Halts(evidence), Some(on)) => Some(Kept::Halts {
-            on,
-            parent,
-            steps: small_number(evidence.steps)?,
-            ones: small_number(evidence.ones?)?,
-        }),
+        (OwnedCertificate::Halts(evidence), Some(on)) if evidence.reach == Reach::Early => {
+            Some(Kept::Halts {
+                on,
+                parent,
+                steps: small_number(evidence.steps)?,
+                ones: small_number(evidence.ones?)?,
+            })
+        }
         (OwnedCertificate::Cycle(evidence), None) => Some(Kept::Cycle {
             parent,
             i: small_number(evidence.i)?,

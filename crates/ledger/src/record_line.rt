@@ -46,9 +46,8 @@ fn scored<'a>(certificate: &Certificate<'a>, shown: Option<Verdict>) -> Certific
         → claim_of result ≡ scored p (claim_of certificate.now) }
 {
     match (*certificate, shown) {
-        (Certificate::Halts(mut evidence), Some(Verdict::Halts { ones, .. })) => {
-            evidence.ones = Some(ones);
-            Certificate::Halts(evidence)
+        (Certificate::Halts(evidence), Some(Verdict::Halts { ones, .. })) => {
+            Certificate::Halts(evidence.with_ones(ones))
         }
         (other, _) => other,
     }
@@ -70,10 +69,7 @@ fn unscored<'a>(certificate: &Certificate<'a>) -> Certificate<'a>
     ensures { claim_of result ≡ unscored (claim_of certificate.now) }
 {
     match *certificate {
-        Certificate::Halts(mut evidence) => {
-            evidence.ones = None;
-            Certificate::Halts(evidence)
-        }
+        Certificate::Halts(evidence) => Certificate::Halts(evidence.without_ones()),
         other => other,
     }
 }

@@ -7,15 +7,15 @@ use crate::small_number::{kept_number, number_of};
 use crate::tree_count::{TreeChange, TreeCount};
 use std::marker::Model;
 
-// The numbers of a tree in 16 bytes: there are as many in memory as records. Tables are counted in four bytes, and a
-// table that halts does so within a limit that has room in them.
+// The numbers of a tree in 24 bytes: there are as many in memory as records. Tables are counted in four bytes, steps and ones
+// in eight: a table may halt later than four bytes can say.
 #[derive(Clone, Copy)]
 pub(crate) struct StoredCount {
     open_count: u32,
     holdouts: u32,
     // each kept as `small_number` does
-    best: u32,
-    ones: u32,
+    best: u64,
+    ones: u64,
 }
 
 impl Model for StoredCount {

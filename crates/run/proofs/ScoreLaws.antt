@@ -6,7 +6,10 @@ use Rattle.law_turing.proofs.Scores.{halts_with, score_within}
 use Rattle.run.specs.declared.halts_in.HaltsIn.{HaltsIn}
 use Rattle.run.specs.Fields.{AreShort}
 use Rattle.run.specs.Halts.{HaltsAsClaimed}
-use Rattle.run.specs.Limits.{halt_step_limit}
+use Rattle.run.specs.Limits.{late_step_limit}
+use Rattle.run.specs.Reach.{IsInReach, IsWithinReach}
+use Rattle.run.specs.declared.reach.Reach.{Reach}
+use Rattle.run.specs.declared.reach.Reach.TheVariants.{Early, Late}
 
 pub claimed_is_true : (e : HaltsIn) (p : Packed) → HaltsAsClaimed e p → HaltsWith (entry_of p) e.steps (score_at (entry_of p) e.steps)
 claimed_is_true e p stands = halts_with (entry_of p) e.steps stands.halts
@@ -15,7 +18,14 @@ short_where : (o : Option ℕ) (n : ℕ) → n < 2 ^ 64 → IfSome o (λ s. s �
 short_where None n small is = tt
 short_where (Some s) n small is = omega (arith, is)
 
-pub claimed_is_short : (e : HaltsIn) (p : Packed) → e.steps ≤ halt_step_limit → HaltsAsClaimed e p → AreShort e
+-- a number of steps that is carried out is one of its reach
+pub in_reach : (r : Reach) (k : ℕ) → IsWithinReach r k → (k ≤ late_step_limit) × IsInReach r k
+in_reach Early k within = (omega (arith, within), tt)
+in_reach Late k within = (within.1, within.0)
+
+pub claimed_is_short : (e : HaltsIn) (p : Packed) → IsWithinReach e.reach e.steps → HaltsAsClaimed e p → AreShort e
 claimed_is_short e p within stands =
     let few = score_within (entry_of p) e.steps stands.halts in
-    (omega arith, short_where e.ones (score_at (entry_of p) e.steps) (omega (arith, few)) stands.score)
+    let reach = in_reach e.reach e.steps within in
+    let most = reach.0 in
+    (omega (arith, most), short_where e.ones (score_at (entry_of p) e.steps) (omega (arith, few, most)) stands.score, reach.1)

@@ -6,6 +6,6 @@ ghost use Rattle.run.specs.Fields.{AreShort, halts_by, halts_fields};
 
 /// The fields of a table that halts, whose numbers of steps and of ones have 64 bits, read back.
 pub fn halts_reads_back()
-    ensures back { (e : HaltsIn) → AreShort e → halts_by (halts_fields e) ≡ Ok e }
+    ensures back { (e : HaltsIn) → AreShort e → halts_by e.reach (halts_fields e) ≡ Ok e }
     ensures fields { (e : HaltsIn) → AreShort e → AreFields (halts_fields e) }
 {}

@@ -6,14 +6,22 @@
 #![tactic(auto)]
 
 mod halt_finder;
+mod halting;
+mod halts_fields;
 mod halts_in;
 mod laws;
 mod limits;
+mod passage;
+mod passages;
+mod reach;
 mod runner;
 
 pub use halt_finder::HaltFinder;
 pub use halts_in::{Halted, HaltsIn};
 pub use kind_evidence::{Ending, Evidence, NoMemory, Refused, Verdict};
 pub use laws::halts_reads_back;
-pub use limits::{MAX_HALT_STEPS, MAX_RUN_STEPS};
+pub use limits::{MAX_HALT_STEPS, MAX_LATE_STEPS, MAX_RUN_STEPS};
+pub use passage::Passage;
+pub use passages::Passages;
+pub use reach::Reach;
 pub use runner::{Runner, Step};

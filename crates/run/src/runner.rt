@@ -4,10 +4,14 @@ ghost use Rattle.law_turing.specs.Tape.{written, moved};
 ghost use Rattle.tape.specs.Places.{IsWithinLimit};
 
 use crate::limits::MAX_RUN_STEPS;
+use crate::passages::Passages;
 use machine_text::{Dir, Entry, State, Sym, Table};
 use std::alloc::Global;
 use std::marker::Model;
 use tape::{NoMemory, Tape};
+
+// So many steps from which on the memory for passages pays.
+const MANY_STEPS: u64 = 4_000_000;
 
 /// What a step came to.
 #[derive(Clone, Copy, Debug, PartialEq, Eq)]
@@ -44,7 +48,7 @@ impl Model for Runner {
 impl Runner {
     ghost use Rattle.law_turing.specs.Run.{start};
     ghost use Rattle.law_turing.specs.Score.{score_of};
-    ghost use Rattle.run.specs.Limits.{run_step_limit};
+    ghost use Rattle.run.specs.Limits.{run_step_limit, window_step_limit};
     ghost use Rattle.run.specs.RunState.{OnRun};
     ghost use Rattle.run.specs.Steps.{StepsTo, RunsTo, IsBetween};
     ghost use Rattle.run.specs.inside.{AdvancesTo};
@@ -115,6 +119,64 @@ impl Runner {
             }
         }
         Ok(Step::Went)
+    }
+
+    /// Carries out steps up to time k as `run_to` does, by windows of sixteen cells: what the run does to one is worked out once, and
+    /// remembered. A long run that isn't made of sweeps is some ten times as fast so.
+    #[inline(never)]
+    pub fn run_by_windows(&mut self, k: u64, passages: &mut Passages) -> Result<Step, NoMemory>
+        requires passages { passages.old ≡ self.old.table }
+        requires onward { self.old.steps ≤ k }
+        requires limit { k ≤ window_step_limit }
+        ensures ok { IfOk result (λ step. RunsTo k self.old step self.new) }
+        ensures err { OnErr result (IsBetween k self.old self.new) }
+    {
+        while self.steps() < k {
+            let step = self.cross(k, passages)?;
+            if let Step::Halts { count } = step {
+                return Ok(Step::Halts { count });
+            }
+        }
+        Ok(Step::Went)
+    }
+
+    /// Carries out steps up to time k as `run_to` does, by windows where there are many of them.
+    pub fn run_far(&mut self, alloc: Global, k: u64) -> Result<Step, NoMemory>
+        requires onward { self.old.steps ≤ k }
+        requires limit { k ≤ window_step_limit }
+        ensures ok { IfOk result (λ step. RunsTo k self.old step self.new) }
+        ensures err { OnErr result (IsBetween k self.old self.new) }
+    {
+        if k < MANY_STEPS {
+            return self.run_to(k);
+        }
+        // Opens the invariant of the runner: it stands on the run of a table.
+        let _ = self.steps();
+        let mut passages = Passages::new(alloc, self.table)?;
+        self.run_by_windows(k, &mut passages)
+    }
+
+    // Goes through the window in which the run stands, where that ends by time k; else carries out a step, or several.
+    #[inline(always)]
+    fn cross(&mut self, k: u64, passages: &mut Passages) -> Result<Step, NoMemory>
+        requires passages { passages.old ≡ self.old.table }
+        requires onward { self.old.steps < k }
+        requires limit { k ≤ window_step_limit }
+        ensures ok { IfOk result (λ step. AdvancesTo k self.old step self.new) }
+        ensures err { OnErr result (self.new ≡ self.old) }
+        ensures stands { OnRun self.new }
+        ensures passages { passages.new ≡ passages.old }
+    {
+        let window = self.tape.window();
+        match passages.through(self.state, window) {
+            Some(passage) if passage.steps as u64 <= k - self.steps => {
+                self.tape.cross(window.at, passage.cells, passage.side)?;
+                self.steps += passage.steps as u64;
+                self.state = passage.state;
+                Ok(Step::Went)
+            }
+            _ => self.advance(k),
+        }
     }
 
     // Carries out one step, or several at once up to time k: those of a state that stays as it is while the head

@@ -8,3 +8,4 @@ pub mod Sweeps
 pub mod Places
 pub mod Halves
 pub mod WordOnes
+pub mod Windows

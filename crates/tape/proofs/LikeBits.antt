@@ -128,12 +128,12 @@ nearest_right others w k within fits differ small some =
         omega (arith, at, set found, (differ k within).1 refl)
 
 -- a word moved up, cut off above
-moved_up : (u low j : ℕ) → low ≤ j → j < 64 → bit_at (u * 2 ^ low % 2 ^ 64) j ≡ bit_at u (j - low)
+pub moved_up : (u low j : ℕ) → low ≤ j → j < 64 → bit_at (u * 2 ^ low % 2 ^ 64) j ≡ bit_at u (j - low)
 moved_up u low j le inside =
     let sum : u * 2 ^ low ≡ u * 2 ^ low + 0 = omega arith in
     bit_at_low _ j inside ∙ ap (λ n. bit_at n j) sum ∙ bit_at_cat_high u low 0 j (pow_pos low) le
 
-moved_up-below : (u low j : ℕ) → j < low → j < 64 → bit_at (u * 2 ^ low % 2 ^ 64) j ≡ 0
+pub moved_up-below : (u low j : ℕ) → j < low → j < 64 → bit_at (u * 2 ^ low % 2 ^ 64) j ≡ 0
 moved_up-below u low j less inside =
     let sum : u * 2 ^ low ≡ u * 2 ^ low + 0 = omega arith in
     bit_at_low _ j inside ∙ ap (λ n. bit_at n j) sum ∙ bit_at_cat_low u low 0 j less ∙ bit_at-zero j

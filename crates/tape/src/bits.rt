@@ -1,5 +1,5 @@
 // A word of 64 cells, the lowest bit leftmost, and the numbers of places.
-ghost use Rattle.std.specs.Prelude.{◌≡◌, ◌≢◌, ◌⊎◌, ℕ, ◌+◌, ◌<◌, ◌↔◌};
+ghost use Rattle.std.specs.Prelude.{◌≡◌, ◌≢◌, ◌⊎◌, ℕ, ◌+◌, ◌<◌, ◌≤◌, ◌↔◌};
 ghost use Rattle.std.specs.Int.{bit_at};
 ghost use Rattle.law_turing.specs.Translated.{Beyond};
 ghost use Rattle.tape.specs.Word.{bit_symbol};
@@ -130,4 +130,23 @@ fn lowest(bit: u32, dir: Dir, count: u32) -> u32
         Dir::L => bit + 1 - count,
         Dir::R => bit,
     }
+}
+
+// The sixteen cells of a word from a bit on.
+pub(crate) fn window_at(word: u64, low: u32) -> u64
+    requires { low < 64 }
+    ensures cells { (i : ℕ) → i < 16 → bit_at result i ≡ bit_at word (low + i) }
+    ensures few { result < 65536 }
+{
+    (word >> low) & 65535
+}
+
+// The word with other sixteen cells from a bit on, and all others as they are.
+pub(crate) fn with_window(word: u64, low: u32, cells: u64) -> u64
+    requires low { low + 16 ≤ 64 }
+    requires few { cells < 65536 }
+    ensures here { (i : ℕ) → i < 16 → bit_at result (low + i) ≡ bit_at cells i }
+    ensures others { (j : ℕ) → j < 64 → ((i : ℕ) → i < 16 → j ≢ low + i) → bit_at result j ≡ bit_at word j }
+{
+    (word & !(65535 << low)) | (cells << low)
 }

@@ -2,8 +2,8 @@
 //!
 //! It is kept in words of 64 cells. Contracts see it as law_turing's record `Tape`: where the head stands, and
 //! the finite set of places that hold ones. `specs/` adds which places are within the limit and what it means
-//! that two half tapes are the same (`Places`), what a sweep over like cells is (`Sweeps`), the limit (`Limits`), and
-//! the ones of words of symbols (`Word`).
+//! that two half tapes are the same (`Places`), what a sweep over like cells is (`Sweeps`), the limit (`Limits`), the ones of
+//! words of symbols (`Word`), and sixteen cells at once (`Windows`).
 #![tactic(auto)]
 
 mod bits;
@@ -13,6 +13,8 @@ mod ones;
 mod same_half;
 mod sweep;
 mod tape;
+mod window;
 
 pub use limits::MAX_PLACE;
 pub use tape::{NoMemory, Tape};
+pub use window::Window;

@@ -3,6 +3,7 @@ use Rattle.std.specs.Prelude.{ℕ, Option, Some, None}
 use Rattle.machine_text.specs.declared.transition.Pair.{Pair}
 use Rattle.cert.specs.declared.certificate.OwnedCertificate.{OwnedCertificate}
 use Rattle.cert.specs.declared.certificate.OwnedCertificate.TheVariants.{Halts as OwnedHalts, Cycle as OwnedCycle, Translated as OwnedTranslated, Backward as OwnedBackward, Undecided as OwnedUndecided}
+use Rattle.run.specs.declared.reach.Reach.TheVariants.{Early}
 use Rattle.ledger.specs.declared.kept.Kept.{Kept}
 use Rattle.ledger.specs.declared.kept.Kept.TheVariants.{Halts, Cycle, Translated, Backward, Undecided, Boxed}
 use Rattle.ledger.specs.declared.tree_count.TreeCount.{TreeCount}
@@ -16,7 +17,7 @@ pub record Stored : Type 0 where
   pub tree : TreeCount
 
 abbrev pub kept_certificate : Kept → OwnedCertificate
-kept_certificate (Halts on parent steps ones) = OwnedHalts (record { steps = steps; ones = Some ones })
+kept_certificate (Halts on parent steps ones) = OwnedHalts (record { steps = steps; ones = Some ones; reach = Early })
 kept_certificate (Cycle parent i j) = OwnedCycle (record { i = i; j = j })
 kept_certificate (Translated side parent i j) = OwnedTranslated (record { i = i; j = j; side = side })
 kept_certificate (Backward parent depth) = OwnedBackward (record { depth = depth })

@@ -1,4 +1,4 @@
--- For the code: numbers that may be missing, in four bytes.
+-- For the code: numbers that may be missing, in eight bytes.
 use Rattle.std.proofs.Common.{zero, suc, refl, arith}
 use Rattle.std.specs.Prelude.{◌≡◌, ℕ, ◌+◌, ◌<◌, ◌^◌, Option, Some, None, IfSome}
 
@@ -11,9 +11,9 @@ abbrev pub kept_number : Option ℕ → ℕ
 kept_number None = 0
 kept_number (Some n) = n + 1
 
--- it has room in four bytes
+-- it has room in eight bytes
 abbrev pub IsSmall : Option ℕ → Type 0
-IsSmall o = IfSome o (λ n. n + 1 < 2 ^ 32)
+IsSmall o = IfSome o (λ n. n + 1 < 2 ^ 64)
 
 pub kept_back : (n : ℕ) → kept_number (number_of n) ≡ n
 kept_back zero = refl

@@ -16,7 +16,7 @@ import time
 
 from program import PROGRAM, TOP
 
-KINDS = "HCTBNFAWRPU"
+KINDS = "HLCTBNFAWRPU"
 
 
 def parts_of(folder):

@@ -269,7 +269,7 @@ settle() {
     "$bb" check < "$place/found" | grep -v '^[^ ]* \(halts\|never\)' && fail "a record doesn't stand"
     { late late; cat "$place/found"; } | sort > "$place/late"
     late below > "$place/below.new"
-    awk '{ table = $1 } $2 == "H" && gsub(/---/, "", table) > 1 { print $1 }' "$place/found" | while read -r root; do
+    awk '{ table = $1 } $2 ~ /^[HL]$/ && gsub(/---/, "", table) > 1 { print $1 }' "$place/found" | while read -r root; do
         # shellcheck disable=SC2046
         "$bb" walk 6 --root "$root" --known "$place/late" $(said options) > "$place/report" || [ $? -eq 1 ] || fail "$root: no report"
         awk "$group" "$place/report" | sed "1s/^/below $root /" >> "$place/below.new"
@@ -300,7 +300,7 @@ $1 == "below" { nodes += $3 - 1; halting += $4 - 1; never += $5; holdouts += $6;
     next }
 $1 == "late" { late = 1; next }
 late { nodes--; holdouts-- }
-$2 == "H" { nodes++; halting++; if ($3 + 0 > best) { best = $3 + 0; champions = "" } if ($4 + 0 > ones) { ones = $4 + 0; scored = "" }
+$2 ~ /^[HL]$/ { nodes++; halting++; if ($3 + 0 > best) { best = $3 + 0; champions = "" } if ($4 + 0 > ones) { ones = $4 + 0; scored = "" }
     if ($3 + 0 == best) champions = champions "champion " $1 "\n"
     if ($4 + 0 == ones) scored = scored "ones_champion " $1 "\n"
     next }

@@ -136,4 +136,4 @@ let counts () =
   let count kind =
     let many = kinds.(Char.code kind) and trusted = if kind = 'P' then ", taken on trust\n" else "\n" in
     if many > 0 then String.make 1 kind ^ " " ^ string_of_int many ^ trusted else "" in
-  String.concat "" (List.map count (List.of_seq (String.to_seq "HCTBFANWRPU")))
+  String.concat "" (List.map count (List.of_seq (String.to_seq "HLCTBFANWRPU")))

@@ -105,8 +105,10 @@ let claim_at ledger k =
   if from > until then "" else String.sub ledger.text from (until - from)
 
 (* In a ledger of version 1 a record that halts has no score, in one of version 2 it has one. *)
+let is_halting claim = claim <> "" && (claim.[0] = 'H' || claim.[0] = 'L')
+
 let is_of_version ledger claim =
-  claim = "" || claim.[0] <> 'H' || (List.length (String.split_on_char ' ' claim) = 2) = (ledger.version = '1')
+  (not (is_halting claim)) || (List.length (String.split_on_char ' ' claim) = 2) = (ledger.version = '1')
 
 let number_of ledger k =
   let count = ref ledger.first in

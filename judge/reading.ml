@@ -23,8 +23,7 @@ let nat k =
 let ten = number 10
 let digits = Array.init 10 number
 
-let number_upto limit =
-  let most = number limit in
+let number_within most =
   let with_digit x c =
     let x = N.add (N.mul ten x) digits.(Char.code c - 48) in
     if N.ltb most x then raise Too_large else x in
@@ -33,6 +32,7 @@ let number_upto limit =
     if text = "" || (text.[0] = '0' && text <> "0") || not (String.for_all is_digit text) then raise Bad;
     String.fold_left with_digit N0 text
 
+let number_upto limit = number_within (number limit)
 let upto limit text = int_of_number (number_upto limit text)
 let nat_of text = nat (upto 10_000 text)
 
@@ -262,13 +262,18 @@ let by_rules rules family first begin_ next loop =
   let groups = if rules = "-" then [] else List.map together (String.split_on_char ';' rules) in
   ByRules (groups, form family, start first, script begin_, start next, script loop)
 
-(* in how many steps runs may halt, and when they may repeat *)
-let halting = number_upto 100_000_000
+(* in how many steps runs may halt, those of a late halt being more than the others, and when they may repeat *)
+let early = number 100_000_000
+let late = N.mul (number 100) early
+let halting = number_within early
+let halting_late text = let k = number_within late text in if N.ltb early k then k else raise Bad
 let time = number_upto 10_000_000
 
 let of_fields = function
   | [ "H"; k ] -> Halts (halting k, None)
   | [ "H"; k; s ] -> Halts (halting k, Some (halting s))
+  | [ "L"; k ] -> Halts (halting_late k, None)
+  | [ "L"; k; s ] -> Halts (halting_late k, Some (number_within late s))
   | [ "C"; i; j ] -> Cycles (time i, time j)
   | [ "T"; i; j; side ] -> Translated (time i, time j, side_of side)
   | [ "B"; d ] -> Backwards (number_upto 1_000 d)

@@ -44,7 +44,7 @@ SEEN = 1_000
 # Longer ones meet no refusals, each of which takes a call.
 SHORT = 300
 # The letters of the kinds, each of which has to be there, and what `bb check` has to answer at least once.
-KINDS = "HCTBNFAWRPU"
+KINDS = "HLCTBNFAWRPU"
 ANSWERS = ["halts", "never", "undecided", "refused 201", "refused 202", "refused 203", "refused 301", "refused 302", "refused 303",
            "refused 304", "refused 305"]
 COUNTED = [b"1RA--- W 1 0 0,1a,-,1a 0,- 0A00:0,1A00:1a:1a", b"1RA--- R - 1^0a1A> 0 l0E.1 1a1 r0B.0.1,1,l0S.1.1.0a1", b"1RA--- A R 1 0,0 0,- 0",

@@ -22,7 +22,7 @@ from oracle import answer
 from read_json import of_lines
 from tree import Loaded
 
-LETTERS = "HCTBNFAWRPU"
+LETTERS = "HLCTBNFAWRPU"
 STATUS = {"working": "Working.", "holdouts": "Holdouts.", "complete": "Complete."}
 VERSION = subprocess.run([PROGRAM, "--version"], capture_output=True, check=True).stdout.decode().splitlines()[0]
 POLICY = ("<meta http-equiv='Content-Security-Policy' content=\"default-src 'none';style-src 'unsafe-inline';"

@@ -3,6 +3,7 @@
 // Each kind's name, and what a record of it has shown.
 const KINDS = {
   H: ['halting', 'Its run from the blank tape comes to an undefined entry. The last step is counted, and writes a one.'],
+  L: ['halting late', 'Its run comes to an undefined entry, after more than 100,000,000 steps. The last step is counted, and writes a one.'],
   C: ['cycler', 'Its run comes to one configuration at two times, or to the same further along the tape, and so again and again.'],
   T: ['translated cycler', 'From some time on its run repeats itself, each time moved along the tape by the same number of cells.'],
   B: ['backward reasoning', 'Its run takes so many steps, and no tape at all leads to an undefined entry in exactly so many.'],

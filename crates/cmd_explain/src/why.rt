@@ -12,7 +12,7 @@ use cert::{Certificate, Record, judge};
 use cmd_lines::{PIECE_BYTES, Sayer, answer, read_line, say_lines};
 use cmd_options::{Ended, Outcome};
 use kind_evidence::{NoMemory, Refused};
-use run::{HaltFinder, HaltsIn, MAX_HALT_STEPS};
+use run::{HaltFinder, HaltsIn, MAX_HALT_STEPS, Reach};
 use std::alloc::Global;
 use std::io::{Read, Write};
 
@@ -106,11 +106,15 @@ pub fn words_of_refusal(alloc: Global, r: &Record, why: Refused) -> Result<Strin
     }
 }
 
-// When a table halts that is said to, if it does within the limit of records `H`.
+// When a table halts that is said to, if it does within the limit of records `H`, or in the steps of a late halt.
 fn right_of_claim(alloc: Global, r: &Record) -> Result<Option<HaltsIn>, NoMemory> {
     match &r.certificate {
-        Certificate::Halts(_) => {
-            HaltFinder::new(alloc, MAX_HALT_STEPS).search(&r.table, MAX_HALT_STEPS)
+        Certificate::Halts(e) => {
+            let most = match e.reach {
+                Reach::Early => MAX_HALT_STEPS,
+                Reach::Late => e.steps,
+            };
+            HaltFinder::new(alloc, most).search(&r.table, most)
         }
         _ => Ok(None),
     }

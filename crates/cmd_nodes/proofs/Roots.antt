@@ -1,6 +1,7 @@
 -- A coordinator's answers keep the root of its board.
-use Rattle.std.proofs.Common.{◌≡◌, ℕ, Bool, true, false, List, [], ◌∷◌, Option, Some, None, Result, Ok, Err, refl, ◌∙◌, ap, sym, subst, ◌==◌}
+use Rattle.std.proofs.Common.{◌≡◌, ℕ, Bool, true, false, List, [], ◌∷◌, inl, inr, Option, Some, None, Result, Ok, Err, refl, ◌∙◌, ap, sym, subst, ◌==◌}
 use Rattle.machine_text.specs.Packed.{Packed}
+use Rattle.cert.specs.Claim.{Recorded}
 use Rattle.wire.specs.Fulfilled.{Reply}
 use Rattle.wire.specs.Happening.{Happening, Came, Ticked, Worked}
 use Rattle.wire.specs.Grammar.{message_of}
@@ -8,7 +9,7 @@ use Rattle.wire.specs.Message.{Message, Ask, Grant, Rec, Ack, Later, Done, Stop}
 use Rattle.wire.specs.declared.message_fault.MsgFault.{MsgFault}
 use Rattle.wire.specs.declared.node.Out.{Out}
 use Rattle.leases.specs.Leases.{Leased}
-use Rattle.lease_core.specs.CoordinatorRules.{Coordinating, DoneRow, FrameRow, HeldGives, MessageRow, On, Row}
+use Rattle.lease_core.specs.CoordinatorRules.{Coordinating, DoneRow, FrameRow, HeldGives, MessageRow, On, RecordRow, Row}
 use Rattle.cmd_nodes.specs.Served.{Becomes, BecomesBy}
 
 -- the board of a coordinator has this root
@@ -26,10 +27,17 @@ unfolding root_of
 done_root true number old out new row = ap (λ b. b.root) row.2
 done_root false number old out new row = ap (λ l. l.board.root) row.1
 
+record_root : (r : Recorded) (old : Leased) (out : Out) (new : Leased) → RecordRow old r out new → root_of new ≡ root_of old
+unfolding root_of
+record_root r old out new row = elim row [
+  | inl late ↦ ap (λ l. l.board.root) late.2
+  | inr offered ↦ offered.1.2.root
+]
+
 message_root : (era : ℕ) (old : Leased) (m : Message) (out : Out) (new : Leased) → MessageRow era old m out new → root_of new ≡ root_of old
 unfolding root_of
 message_root era old (Ask id) out new row = ap (λ b. b.root) row.2
-message_root era old (Rec r) out new row = row.2.root
+message_root era old (Rec r) out new row = record_root r old out new row
 message_root era old (Done named number) out new row = done_root (named == era) number old out new row
 message_root era old (Grant named number table) out new row = ap (λ l. l.board.root) row.1
 message_root era old (Ack table) out new row = ap (λ l. l.board.root) row.1

@@ -2,12 +2,13 @@
 use Rattle.std.specs.Prelude.{ℕ, List, ◌==◌, if◌then◌else◌, codes, []}
 
 abbrev pub kind_letters : List ℕ
-kind_letters = codes "HCTBNFAWRPU"
+kind_letters = codes "HLCTBNFAWRPU"
 
 -- the letter and the name of its kind, as HTML
 abbrev pub kind_label : ℕ → List ℕ
 kind_label letter =
     if letter == 72 then codes "<code>H</code> halting"
+    else if letter == 76 then codes "<code>L</code> halting late"
     else if letter == 67 then codes "<code>C</code> cycler"
     else if letter == 84 then codes "<code>T</code> translated cycler"
     else if letter == 66 then codes "<code>B</code> backward reasoning"

@@ -81,7 +81,7 @@ IsRunIf run most = IfSome run (λ steps. (1 ≤ steps) × (steps ≤ most))
 
 abbrev pub AreWithinRanges : Options → Type 0
 AreWithinRanges (Check checking) = Unit {0}
-AreWithinRanges (Decide deciding) = IsWithinRange deciding.search × IsRunIf deciding.run 100000000
+AreWithinRanges (Decide deciding) = IsWithinRange deciding.search × IsRunIf deciding.run 10000000000
 AreWithinRanges (Explain explaining) = IsRunIf explaining.run 10000000000
 AreWithinRanges (Show showing) = 1 ≤ showing.every
 AreWithinRanges (Tables listing) = listing.steps ≤ 100000000

@@ -6,7 +6,7 @@ use crate::number::Number;
 use crate::ranged;
 
 /// The letters of the kinds, in the order in which a page has them (`kind_letters`).
-pub const LETTERS: &[u8] = b"HCTBNFAWRPU";
+pub const LETTERS: &[u8] = b"HLCTBNFAWRPU";
 
 /// What a page calls the kind of a letter, as HTML: the letter and a name. Nothing for another letter.
 pub fn kind_label(letter: u8) -> &'static [u8]
@@ -14,6 +14,7 @@ pub fn kind_label(letter: u8) -> &'static [u8]
 {
     match letter {
         b'H' => b"<code>H</code> halting",
+        b'L' => b"<code>L</code> halting late",
         b'C' => b"<code>C</code> cycler",
         b'T' => b"<code>T</code> translated cycler",
         b'B' => b"<code>B</code> backward reasoning",

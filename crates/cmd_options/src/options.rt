@@ -91,7 +91,7 @@ pub struct Deciding<'a> {
     pub json: bool,
     /// Whether the table of an answer is printed as it came.
     pub keep: bool,
-    /// The most steps of its run, where a table is run alone: 1 to 100,000,000. None where all that `search` asks for is
+    /// The most steps of its run, where a table is run alone: 1 to 10,000,000,000. None where all that `search` asks for is
     /// done.
     pub run: Option<u64>,
     /// Whether to tell on standard error, while it goes on, how far it is.

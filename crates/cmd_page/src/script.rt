@@ -8,6 +8,7 @@ pub(crate) const TOOLS: &[u8] = br#"
 const kinds = {
   'H': ['halting', 'The run from the blank tape comes to a pair without an entry after so many steps, with so many '
     + 'ones on its tape.'],
+  'L': ['halting late', 'The same after more than 100,000,000 steps.'],
   'C': ['cycler', 'The run comes to one and the same configuration at two times, and so again and again.'],
   'T': ['translated cycler', 'From a time on the run repeats itself, each time moved along the tape by the same number '
     + 'of cells.'],

@@ -52,8 +52,8 @@ mod rows {
         default: Some("100"), help: "Show so many steps from there on" };
     pub(crate) const EVERY: Number = ranged! { name: "every", value: Some("E"), least: 1, most: 100_000_000,
         default: Some("1"), help: "Show every E-th configuration" };
-    // As far as a record of a halt may say.
-    pub(crate) const RUN_ALONE: Number = ranged! { name: "run", value: Some("K"), least: 1, most: 100_000_000,
+    // As far as a record of a late halt may say.
+    pub(crate) const RUN_ALONE: Number = ranged! { name: "run", value: Some("K"), least: 1, most: 10_000_000_000,
         default: None, help: "Look for halting and for loops alone, in K steps at most" };
     pub(crate) const SEEN: Number = ranged! { name: "run", value: Some("K"), least: 1, most: 10_000_000_000,
         default: None, help: "Of a table without a certificate, say what is seen in K steps" };

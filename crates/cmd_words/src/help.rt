@@ -393,6 +393,7 @@ Lines are arguments (after `--` where one begins with `-`), or in the file of --
 A record is a table in the bbchallenge standard format, a space and a certificate:
   H k         it halts in k steps (the halting step counts); k up to 100,000,000
   H k s       so it does, and with s ones on its tape then (the halting step writes one)
+  L k s       the same of a halt that comes late; k above 100,000,000 and up to 10,000,000,000
   C i j       the configurations at the times i and j are equal; j up to 10,000,000
   T i j side  they are equal up to a shift of the tape to that side (L or R), except for cells behind it that the
               head no longer reads

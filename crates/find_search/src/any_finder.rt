@@ -138,6 +138,8 @@ fn finder_of<'a>(alloc: Global, letter: u8, search: &Search<'_>) -> Option<AnyFi
     let steps = search.steps;
     match letter {
         b'H' => Some(AnyFinder::Halts(HaltFinder::new(alloc, steps))),
+        // The run for `H` goes on to late halts.
+        b'L' => None,
         b'C' => Some(AnyFinder::Cycle(CycleFinder::new(alloc, steps))),
         b'T' => Some(AnyFinder::Translated(TranslatedFinder::new(alloc, steps))),
         b'B' => Some(AnyFinder::Backward(BackwardFinder::new(alloc, search.depth))),

@@ -18,9 +18,10 @@ use Rattle.leases.specs.Leases.{Leased}
 use Rattle.leases.specs.declared.reply.Reply.{Reply}
 use Rattle.leases.specs.declared.reply.Reply.TheVariants.{Stop as ToStop, Later as ToWait, Grant as ToGrant}
 use Rattle.kind_evidence.specs.Verdict.{refused_number}
+use Rattle.kind_evidence.specs.declared.verdicts.Refused.TheVariants.{TooLong}
 use Rattle.lease_core.proofs.Refusals.{refusal_says}
 use Rattle.lease_core.specs.CoordinatorRules as coordinating
-use Rattle.lease_core.specs.CoordinatorRules.{Coordinating, DoneRow, HeldGives, MessageRow, OfferRow, On, reply_of}
+use Rattle.lease_core.specs.CoordinatorRules.{Coordinating, DoneRow, HeldGives, MessageRow, OfferRow, RecordRow, On, reply_of}
 use Rattle.lease_core.specs.CoordinatorLaws.{AcknowledgesRecorded, HasRecordOn}
 use Rattle.lease_core.specs.CoordinatorFinals.{board_of}
 
@@ -51,6 +52,12 @@ offer_sends old new r out (Err WrongSize, gives, kept, leases, row) = none_sent 
 offer_sends old new r out (Err (NotStanding f), gives, kept, leases, row) = none_sent out (Some new.board) (refusal_says (refused_number f) out row).1.frames_are
 offer_sends old new r out (Err OfferNoMemory, gives, kept, leases, row) = absurd row
 
+record_sends : (old new : Leased) (r : Recorded) (out : Out) → RecordRow old r out new → AcknowledgesRecorded out (Some new.board)
+record_sends old new r out row = elim row [
+  | inl late ↦ none_sent out (Some new.board) (refusal_says (refused_number TooLong) out late.1).1.frames_are
+  | inr offered ↦ offer_sends old new r out offered.1
+]
+
 reply_sends : (era : ℕ) (reply : Reply) (out : Out) (board : Option Contents) → out.frames.items ≡ frames_of (reply_of era reply ∷ []) → AcknowledgesRecorded out board
 reply_sends era ToStop out board frames = one_sent out board Stop frames (λ t other. cc)
 reply_sends era ToWait out board frames = one_sent out board (Later None) frames (λ t other. cc)
@@ -62,7 +69,7 @@ done_sends false number old new out row = none_sent out (Some new.board) row.0.f
 
 message_sends : (era : ℕ) (old new : Leased) (m : Message) (out : Out) → MessageRow era old m out new → AcknowledgesRecorded out (Some new.board)
 message_sends era old new (Ask id) out row = reply_sends era row.0 out (Some new.board) row.3.frames_are
-message_sends era old new (Rec r) out row = offer_sends old new r out row
+message_sends era old new (Rec r) out row = record_sends old new r out row
 message_sends era old new (Done named number) out row = done_sends (nat_eq named era) number old new out row
 message_sends era old new (Grant named number table) out row = none_sent out (Some new.board) row.0.frames_are
 message_sends era old new (Ack table) out row = none_sent out (Some new.board) row.0.frames_are

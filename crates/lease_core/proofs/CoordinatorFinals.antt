@@ -1,5 +1,6 @@
 -- Complete is final: a coordinator keeps a complete board.
-use Rattle.std.proofs.Common.{◌≡◌, ℕ, Bool, true, false, nat_eq, Option, Some, None, Result, Ok, Err, sym, ◌∙◌, ap, subst}
+use Rattle.std.proofs.Common.{◌≡◌, ℕ, Bool, true, false, nat_eq, inl, inr, Option, Some, None, Result, Ok, Err, sym, ◌∙◌, ap, subst}
+use Rattle.cert.specs.Claim.{Recorded}
 use Rattle.ledger.specs.Contents.{Contents}
 use Rattle.ledger.proofs.Merged.{offer_is_final}
 use Rattle.wire.specs.Happening.{Happening, Came, Ticked, Worked}
@@ -11,7 +12,7 @@ use Rattle.wire.specs.declared.node.NodeFault.TheVariants.{Stopped, NoMemory}
 use Rattle.wire.specs.declared.node.Out.{Out}
 use Rattle.leases.specs.Leases.{Leased}
 use Rattle.lease_core.specs.CoordinatorRules as coordinating
-use Rattle.lease_core.specs.CoordinatorRules.{Coordinating, On, HeldGives, OfferRow, DoneRow, MessageRow}
+use Rattle.lease_core.specs.CoordinatorRules.{Coordinating, On, HeldGives, OfferRow, RecordRow, DoneRow, MessageRow}
 use Rattle.lease_core.specs.Finals.{IsCompleteBoard, KeepsComplete}
 use Rattle.lease_core.proofs.Finals.{same_inside}
 use Rattle.lease_core.specs.CoordinatorFinals.{board_of}
@@ -23,10 +24,19 @@ done_keeps : (own : Bool) (number : ℕ) (old new : Leased) (out : Out) → Done
 done_keeps true number old new out row = row.2
 done_keeps false number old new out row = ap (λ (l : Leased). l.board) row.1
 
+offer_keeps : (old new : Leased) (r : Recorded) (out : Out) → OfferRow old r out new → IsCompleteBoard old.board → new.board ≡ old.board
+offer_keeps old new r out row complete =
+    same_board old.board new.board row.2.root (offer_is_final old.board.root old.board.records new.board.records r row.0 complete row.1) row.2.format
+
+record_keeps : (old new : Leased) (r : Recorded) (out : Out) → RecordRow old r out new → IsCompleteBoard old.board → new.board ≡ old.board
+record_keeps old new r out row complete = elim row [
+  | inl late ↦ ap (λ (l : Leased). l.board) late.2
+  | inr offered ↦ offer_keeps old new r out offered.1 complete
+]
+
 message_keeps : (era : ℕ) (old new : Leased) (m : Message) (out : Out) → MessageRow era old m out new → IsCompleteBoard old.board → new.board ≡ old.board
 message_keeps era old new (Ask id) out row complete = row.2
-message_keeps era old new (Rec r) out row complete =
-    same_board old.board new.board row.2.root (offer_is_final old.board.root old.board.records new.board.records r row.0 complete row.1) row.2.format
+message_keeps era old new (Rec r) out row complete = record_keeps old new r out row complete
 message_keeps era old new (Done named number) out row complete = done_keeps (nat_eq named era) number old new out row
 message_keeps era old new (Grant named number table) out row complete = ap (λ (l : Leased). l.board) row.1
 message_keeps era old new (Ack table) out row complete = ap (λ (l : Leased). l.board) row.1

@@ -33,9 +33,10 @@ use Rattle.lease_core.specs.Says.{Says, lines_of}
 use Rattle.lease_core.specs.Kept.{cut_of, kept_bytes}
 use Rattle.lease_core.proofs.Refusals.{refusal_says}
 use Rattle.kind_evidence.specs.Verdict.{refused_number}
+use Rattle.kind_evidence.specs.declared.verdicts.Refused.TheVariants.{TooLong}
 use Rattle.lease_core.specs.Starts.{Begins, HeldInStep, InStep, header_line, header_due}
 use Rattle.lease_core.specs.inside.Begun.{BeginsSo, HoldsBoard}
-use Rattle.lease_core.specs.CoordinatorRules.{Coordinating, HeldGives, On, OfferRow, DoneRow, MessageRow, FrameRow, Row}
+use Rattle.lease_core.specs.CoordinatorRules.{Coordinating, HeldGives, On, OfferRow, RecordRow, DoneRow, MessageRow, FrameRow, Row}
 
 abbrev Stands : Contents → List ℕ → Type 0
 Stands board text = IsLedgerOf board text
@@ -74,13 +75,19 @@ module _ (old new : Leased) (board : IsBoard old.board) (out : Out) (text : List
   noted_step : (note : Note) → Says out None [] [] note × (new ≡ old) → Stands new.board (text_after out text)
   noted_step note row = same_text old.board new.board out [] note text row.0 (ap (λ (l : Leased). l.board) row.1) stands
 
+  record_step : (r : Recorded) → RecordRow old r out new → Stands new.board (text_after out text)
+  record_step r row = elim row [
+    | inl late ↦ same_text old.board new.board out _ _ text (refusal_says (refused_number TooLong) out late.1).1 (ap (λ (l : Leased). l.board) late.2) stands
+    | inr offered ↦ offer_step r offered.1
+  ]
+
   done_step : (is_own : Bool) (number : ℕ) → DoneRow is_own number old out new → Stands new.board (text_after out text)
   done_step true number row = same_text old.board new.board out [] _ text row.3 row.2 stands
   done_step false number row = noted_step _ row
 
   message_step : (era : ℕ) (m : Message) → MessageRow era old m out new → Stands new.board (text_after out text)
   message_step era (Ask id) row = same_text old.board new.board out _ _ text row.3 row.2 stands
-  message_step era (Rec r) row = offer_step r row
+  message_step era (Rec r) row = record_step r row
   message_step era (Done named number) row = done_step (nat_eq named era) number row
   message_step era (Grant named number table) row = noted_step _ row
   message_step era (Ack table) row = noted_step _ row

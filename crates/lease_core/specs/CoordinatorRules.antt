@@ -1,9 +1,12 @@
 -- The rules of a coordinator: what it answers to each event, and what becomes of its board and its leases.
-use Rattle.std.specs.Prelude.{◌≡◌, ℕ, ◌==◌, Bool, true, false, max, [], ◌∷◌, Option, Some, None, Result, Ok, Err}
-use Rattle.cert.specs.Claim.{Recorded}
+use Rattle.std.specs.Prelude.{◌≡◌, ◌⊎◌, ℕ, ◌<◌, ◌==◌, Bool, true, false, max, [], ◌∷◌, Option, Some, None, Result, Ok, Err}
+use Rattle.run.specs.declared.reach.Reach.TheVariants.{Late}
+use Rattle.kind_evidence.specs.Verdict.{refused_number}
+use Rattle.kind_evidence.specs.declared.verdicts.Refused.TheVariants.{TooLong}
+use Rattle.cert.specs.Claim.{Claim, HaltsClaim, NeverClaim, NoClaim, Recorded}
 use Rattle.cert.specs.Scored.{with_score}
 use Rattle.ledger.specs.Faults.{offer_fault_number}
-use Rattle.ledger.specs.Offers.{KeepsTree, OfferGives}
+use Rattle.ledger.specs.Offers.{IsKnown, KeepsTree, OfferGives}
 use Rattle.ledger.specs.declared.format.Format.{Format}
 use Rattle.ledger.specs.declared.taken.Taken.{Taken}
 use Rattle.ledger.specs.declared.taken.Taken.TheVariants.{New, Known, Settled}
@@ -21,6 +24,7 @@ use Rattle.wire.specs.declared.node.Out.{Out}
 use Rattle.leases.specs.Leases.{Leased, SomeEnds, is_live, ticked, IsDone}
 use Rattle.leases.specs.Asks.{Asks}
 use Rattle.leases.specs.Offers.{LeasesAfter}
+use Rattle.lease_core.specs.Limits.{peer_step_limit}
 use Rattle.lease_core.specs.Says.{Says, NotesRefusal, lines_of}
 use Rattle.leases.specs.declared.reply.Reply.{Reply}
 use Rattle.leases.specs.declared.reply.Reply.TheVariants.{Stop as ToStop, Later as ToWait, Grant as ToGrant}
@@ -52,6 +56,22 @@ OfferRow old r out new =
     (said : Result Taken OfferFault) × OfferGives old.board.root old.board.records r said new.board.records
     × KeepsTree old.board new.board × LeasesAfter r.table said old new × RecRow old.board.format r said out
 
+-- a late halt of more steps than those that are judged for a peer, where it would bring something new
+abbrev pub IsBeyondPeers : Claim → Type 0
+IsBeyondPeers (HaltsClaim e) = (e.reach ≡ Late) × (peer_step_limit < e.steps)
+IsBeyondPeers (NeverClaim reason) = ⊥
+IsBeyondPeers NoClaim = ⊥
+
+pub record IsTooLate (old : Leased) (r : Recorded) : Type 0 where
+  pub size : r.table.states ≡ old.board.root.states
+  pub new : IsKnown old.board.records r → ⊥
+  pub steps : IsBeyondPeers r.claim
+
+-- it isn't judged, and nothing changes; any other record is offered
+abbrev pub RecordRow : Leased → Recorded → Out → Leased → Type 0
+RecordRow old r out new = (IsTooLate old r × NotesRefusal (refused_number TooLong) out × (new ≡ old))
+    ⊎ ((IsTooLate old r → ⊥) × OfferRow old r out new)
+
 -- DONE of its own era: the lease of that number ends, if it lives; else it is stale
 abbrev pub note_of : Bool → Note
 note_of true = Quiet
@@ -70,7 +90,7 @@ abbrev pub MessageRow : ℕ → Leased → Message → Out → Leased → Type 0
 MessageRow era old (Ask id) out new =
     (reply : Reply) × Asks old.board id old.leases reply new.leases × (new.board ≡ old.board)
     × Says out None [] (reply_of era reply ∷ []) Quiet
-MessageRow era old (Rec r) out new = OfferRow old r out new
+MessageRow era old (Rec r) out new = RecordRow old r out new
 MessageRow era old (Done named number) out new = DoneRow (named == era) number old out new
 MessageRow era old (Grant named number table) out new = OnlyNotes Strange old out new
 MessageRow era old (Ack table) out new = OnlyNotes Strange old out new

@@ -5,13 +5,14 @@ ghost use Rattle.wire.specs.Grammar.{message_of};
 ghost use Rattle.wire.specs.Happening.{seen};
 ghost use Rattle.wire.specs.Message.{Ask};
 ghost use Rattle.lease_core.specs.CoordinatorRules.{Gives};
-ghost use Rattle.lease_core.specs.inside.Answering.{GivesFrame, GivesMessage, GivesOffer, GivesDone};
+ghost use Rattle.lease_core.specs.inside.Answering.{GivesFrame, GivesMessage, GivesRecord, GivesOffer, GivesDone};
 
 use crate::frames::{GRANT_BYTES, ack_frame, later_frame, put_reply};
-use crate::known::is_known;
+use crate::known::{is_beyond_peers, is_known};
 use crate::plain_answers::{noted, refused, sent};
 use cert::Record;
 use leases::LeasedBoard;
+use kind_evidence::Refused;
 use ledger::{OfferFault, Taken};
 use machine_text::TEXT_BYTES;
 use std::alloc::Global;
@@ -71,9 +72,9 @@ fn answer_ask(alloc: Global, era: u64, held: &mut LeasedBoard, id: u32) -> Resul
 }
 
 // In the order in which a board judges a record. Of a table of another size nothing is written, and of a record
-// that brings nothing new only that it is held.
+// that brings nothing new only that it is held. A peer can't have a run of minutes made here.
 fn answer_record(alloc: Global, held: &mut LeasedBoard, r: &Record<'_>) -> Result<Out, NodeFault>
-    ensures { GivesOffer held.old (recorded r.now) result held.new }
+    ensures { GivesRecord held.old (recorded r.now) result held.new }
 {
     if r.table.states() != held.board().root().states() {
         let out = refused(alloc, OfferFault::WrongSize.number())?;
@@ -82,6 +83,10 @@ fn answer_record(alloc: Global, held: &mut LeasedBoard, r: &Record<'_>) -> Resul
     if is_known(held.board(), r) {
         let frames = ack_frame(alloc, &r.table)?;
         return Ok(sent(alloc, frames));
+    }
+    if is_beyond_peers(&r.certificate) {
+        let out = refused(alloc, Refused::TooLong.number())?;
+        return Ok(out);
     }
     offer_record(alloc, held, r)
 }

@@ -1,10 +1,13 @@
-// Which records bring a board nothing new.
+// Which records bring a board nothing new, and which aren't judged for a peer.
 ghost use Rattle.std.specs.Prelude.{◌↔◌, IsTrue};
-ghost use Rattle.cert.specs.Kinds.{recorded};
+ghost use Rattle.cert.specs.Kinds.{claim_of, recorded};
 ghost use Rattle.ledger.specs.Offers.{IsKnown};
+ghost use Rattle.lease_core.specs.CoordinatorRules.{IsBeyondPeers};
 
-use cert::Record;
+use crate::limits::MAX_PEER_STEPS;
+use cert::{Certificate, Record};
 use ledger::Board;
+use run::Reach;
 
 // Whether the table has a verdict, or is a holdout and no verdict is offered.
 pub(crate) fn is_known(board: &Board, r: &Record<'_>) -> bool
@@ -13,5 +16,15 @@ pub(crate) fn is_known(board: &Board, r: &Record<'_>) -> bool
     match r.certificate.ending() {
         Some(_) => board.verdict(&r.table).is_some(),
         None => board.is_recorded(&r.table),
+    }
+}
+
+// Whether it is a late halt of more steps than those that are judged for a peer.
+pub(crate) fn is_beyond_peers(certificate: &Certificate<'_>) -> bool
+    ensures { IsTrue result ↔ IsBeyondPeers (claim_of certificate.now) }
+{
+    match certificate {
+        Certificate::Halts(e) => e.reach == Reach::Late && e.steps > MAX_PEER_STEPS,
+        _ => false,
     }
 }

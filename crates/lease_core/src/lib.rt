@@ -32,7 +32,7 @@ pub use coordinator_laws::{
 };
 pub use lease_name::LeaseName;
 pub use leases::{LEASE_TIME, LeasedBoard, MAX_LEASES, Reply};
-pub use limits::{MAX_TICK_RECORDS, MAX_WORK_RECORDS};
+pub use limits::{MAX_PEER_STEPS, MAX_TICK_RECORDS, MAX_WORK_RECORDS};
 pub use start_fault::StartFault;
 pub use worker::Worker;
 pub use worker_laws::{

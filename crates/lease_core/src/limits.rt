@@ -1,4 +1,7 @@
-// The limits of workers.
+// The limits of a coordinator and of workers.
+
+/// The most steps of a late halt that a coordinator judges for a peer.
+pub const MAX_PEER_STEPS: u64 = 1_000_000_000;
 
 /// A work turn makes no record on a board with so many.
 pub const MAX_WORK_RECORDS: u64 = 32;

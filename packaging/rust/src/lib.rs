@@ -95,6 +95,8 @@ pub enum Verdict {
 pub enum Kind {
     /// `H`: the table halts.
     Halting,
+    /// `L`: it halts, in more than 100,000,000 steps.
+    HaltingLate,
     /// `C`: two configurations are equal.
     Cycler,
     /// `T`: two configurations are equal except for a shift.
@@ -125,6 +127,7 @@ impl Kind {
     pub fn of(letter: u8) -> Kind {
         match letter {
             b'H' => Kind::Halting,
+            b'L' => Kind::HaltingLate,
             b'C' => Kind::Cycler,
             b'T' => Kind::TranslatedCycler,
             b'B' => Kind::Backward,
@@ -144,6 +147,7 @@ impl Kind {
     pub fn letter(self) -> u8 {
         match self {
             Kind::Halting => b'H',
+            Kind::HaltingLate => b'L',
             Kind::Cycler => b'C',
             Kind::TranslatedCycler => b'T',
             Kind::Backward => b'B',

@@ -7,7 +7,7 @@ use Rattle.wire.specs.declared.node.NodeFault.{NodeFault}
 use Rattle.wire.specs.declared.node.NodeFault.TheVariants.{Stopped, NoMemory}
 use Rattle.wire.specs.declared.node.Out.{Out}
 use Rattle.leases.specs.Leases.{Leased, is_live}
-use Rattle.lease_core.specs.CoordinatorRules.{FrameRow, MayGrowFor, MessageRow, OfferRow, DoneRow}
+use Rattle.lease_core.specs.CoordinatorRules.{FrameRow, MayGrowFor, MessageRow, OfferRow, RecordRow, DoneRow}
 
 -- by its row, or memory was refused where it may be, and nothing has changed
 abbrev pub ByRow : (Out → Type 0) → Type 0 → Leased → Result Out NodeFault → Leased → Type 0
@@ -21,6 +21,10 @@ GivesFrame era old m result new = ByRow (λ out. FrameRow era old m out new) (Ma
 abbrev pub GivesMessage : ℕ → Leased → Message → Result Out NodeFault → Leased → Type 0
 GivesMessage era old m result new = ByRow (λ out. MessageRow era old m out new) (MayGrowFor era old (Ok m)) old result
     new
+
+abbrev pub GivesRecord : Leased → Recorded → Result Out NodeFault → Leased → Type 0
+GivesRecord old r result new = ByRow (λ out. RecordRow old r out new) (r.table.states ≡ old.board.root.states) old
+    result new
 
 abbrev pub GivesOffer : Leased → Recorded → Result Out NodeFault → Leased → Type 0
 GivesOffer old r result new = ByRow (λ out. OfferRow old r out new) (r.table.states ≡ old.board.root.states) old result

@@ -151,7 +151,7 @@ def words(record):
     table, kind, *fields = record.split(" ")
     if kind == "U":
         return "Nothing is claimed.\n"
-    if kind == "H":
+    if kind in ("H", "L"):
         return halts(table, *map(int, fields))
     if kind == "R":
         _, told, values, begin = notation.lines_of(record.encode())
@@ -229,7 +229,7 @@ Line = collections.namedtuple("Line", "text record answer")
 def answer_of(record):
     """The answer to a record of `examples/`, all of which stand."""
     table, kind, *fields = record.split(" ")
-    if kind == "H":
+    if kind in ("H", "L"):
         return f"{table} halts {fields[0]}" + (f" ones {fields[1]}" if len(fields) > 1 else "")
     return f"{table} undecided" if kind == "U" else f"{table} never"
 
@@ -249,7 +249,7 @@ def of_text(text):
 def why_of(line):
     """Why a line is refused, with what is right of a table that halts otherwise; none where that isn't known here."""
     code = line.answer.split(" ")[1]
-    if line.record is not None and line.record.split(" ")[1] == "H":
+    if line.record is not None and line.record.split(" ")[1] in ("H", "L"):
         found = run_of(line.record.split(" ")[0], oracle.STEPS)[1]
         return found and f"it halts after {many(found[0], 'step')} with {many(found[1], 'one')}"
     return REFUSED[code]

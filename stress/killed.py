@@ -192,7 +192,7 @@ def run(turns, chance, folder):
 def unverdicted(lines, every):
     """Lines of which each so many-th record, of a table that never halts, has no verdict."""
     words = [line.split(b" ") for line in lines]
-    return [b"%s U\n" % word[0] if place % every == 0 and word[1] not in (b"H", b"2") else line for place, (word, line) in enumerate(zip(words, lines))]
+    return [b"%s U\n" % word[0] if place % every == 0 and word[1] not in (b"H", b"L", b"2") else line for place, (word, line) in enumerate(zip(words, lines))]
 
 
 def written(turns, chance, folder, command, over):

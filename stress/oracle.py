@@ -8,6 +8,9 @@ from faults import Refused
 from forms import induction
 
 STEPS = 2_000
+# In how many steps a table may halt by a record of the kind H, and by one of the kind L.
+EARLY = 100_000_000
+LATE = 10_000_000_000
 PATHS = 65_536
 FEW_PATHS = 300
 
@@ -126,11 +129,14 @@ def score(rows, k):
     return len(set(ones) | {head})
 
 
-def halts(rows, k, ones):
-    """With or without a score."""
-    if k > 100_000_000:
+def halts(rows, k, ones, most):
+    """With or without a score, in so many steps at most."""
+    if k > most:
         raise Refused("202")
     if k > STEPS:
+        # One that halts earlier is known here.
+        if len(run(rows, STEPS)) <= STEPS:
+            raise Refused("201")
         return None
     configs = run(rows, max(k - 1, 0))
     if k < 1 or len(configs) < k or step(rows, configs[k - 1]) is not None:
@@ -418,13 +424,15 @@ def read_claim(rows, parts):
     if not parts:
         raise Refused("302")
     kind, fields = parts[0], parts[1:]
-    counts = {b"H": (1, 2), b"C": (2,), b"T": (3,), b"B": (1,), b"N": (4,), b"F": (5,), b"A": (5,), b"W": (5,), b"R": (6,), b"P": (0,), b"U": (0,)}
+    counts = {b"H": (1, 2), b"L": (1, 2), b"C": (2,), b"T": (3,), b"B": (1,), b"N": (4,), b"F": (5,), b"A": (5,), b"W": (5,), b"R": (6,), b"P": (0,), b"U": (0,)}
     if len(fields) not in counts.get(kind, ()):
         raise Refused("302")
-    if kind == b"H":
+    if kind in (b"H", b"L"):
         k = number(fields[0])
         ones = number(fields[1]) if len(fields) == 2 else None
-        return lambda: halts(rows, k, ones)
+        if kind == b"L" and k <= EARLY:
+            raise Refused("303")
+        return lambda: halts(rows, k, ones, EARLY if kind == b"H" else LATE)
     if kind == b"C":
         i, j = number(fields[0]), number(fields[1])
         return lambda: cycle(rows, i, j)

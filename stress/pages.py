@@ -53,7 +53,7 @@ def counts_of(board, left):
     """How many records there are, as a page counts them."""
     words = [line.split(b" ") for line in board.lines]
     entries = [filled(fields[0]) for fields in words]
-    steps = [int(fields[2]).bit_length() - 1 for fields in words if fields[1] == b"H"]
+    steps = [int(fields[2]).bit_length() - 1 for fields in words if fields[1] in (b"H", b"L")]
     kinds = [fields[1].decode() for fields in words]
     counts = {"entries": [entries.count(k) for k in range(15)], "left": left, "steps": [steps.count(k) for k in range(64)]}
     return counts | {letter: kinds.count(letter) for letter in LETTERS}

@@ -10,13 +10,13 @@ HEADER = HEADERS[2]
 def in_version(version, line):
     """A line as it stands in a ledger: without its score in version 1."""
     parts = line.split(b" ")
-    return b" ".join(parts[:3]) if version == 1 and parts[1] == b"H" else line
+    return b" ".join(parts[:3]) if version == 1 and parts[1] in (b"H", b"L") else line
 
 
 def may_stand(version, line):
     """Whether a record's line is one of this version: of a halting table with its score in version 2 alone."""
     parts = line.split(b" ")
-    return parts[1] != b"H" or len(parts) == version + 2
+    return parts[1] not in (b"H", b"L") or len(parts) == version + 2
 
 
 def used(rows):

@@ -6,6 +6,8 @@ stress/kinds.py any [SEED [BATCHES]]   batches of 5,000 damaged lines of all kin
 stress/kinds.py P [SEED]               the tables that have a proof of their own (Skelet 1 apart, whose check takes half a
                                        minute: stress/skelet1.py check), each with one entry changed, mirrored, and 10,000
                                        others that are drawn by the seed
+stress/kinds.py L                      tables of docs/SIX.md that halt late, as a plain simulator in C ran them, with these numbers
+                                       and with others; and numbers at the limits of the kind
 stress/kinds.py LETTER compare RECORDS [PROGRAM ..]
                                        LETTER is A, W or R: these records and 2,000 changed ones; what the program prints,
                                        `bb check` where none is named, has to be what is judged here
@@ -25,7 +27,7 @@ import subprocess
 import sys
 
 from counts import LETTERS, automaton_of, cosets_of, counts_of, is_sum
-from oracle import NAMED, answer, mirrored, printed, read_table
+from oracle import EARLY, LATE, NAMED, answer, mirrored, printed, read_table
 
 TOP = os.path.dirname(os.path.dirname(os.path.abspath(__file__)))
 sys.path.insert(0, os.path.join(TOP, "bench"))
@@ -36,10 +38,18 @@ CHANGES = 2_000
 OTHERS = 10_000
 SKELET1 = "1RB1RD_1LC0RC_1RA1LD_0RE0LB_---1RC"
 LARGEST = 999_999_999
+# Tables that halt late: in how many steps, and with how many ones.
+LATE_TABLES = [
+    ("1RB0LB_1LC0RE_1LA0LD_0LB---_1RF0RF_1LA0RB", 118_860_137, 13_594),
+    ("1RB1LF_1RC0LA_1RD0RB_1LE0RC_0LA0LD_1RE---", 130_158_456, 28_032),
+    ("1RB1RE_1RC1RB_1LD0RA_1LB1LD_0RD1RF_---0RA", 294_970_355, 20_484),
+    ("1RB0RD_1LC1RE_1LA0LD_0RC0LB_0RB1RF_1RD---", 973_282_669, 20_903),
+    ("1RB1LC_0LA0LF_1RD0LB_0RE0RC_1LE1LC_1RD---", 2_717_197_574, 38_862),
+]
 SCRIPT = b"0123456789abcdegilrstupwABEPRSW.,:;&^<>-"
 LINES = 5_000
 SEEDS = [
-    b"------ H 1", b"1RB1LB_1LA--- H 6", b"1RB1RC_1LC---_1RA0LB H 21", b"1RB1LB_1LA0LC_---1LD_1RD0RA H 107",
+    b"------ H 1", b"1RB1LB_1LA--- H 6", b"1RB1LB_1LA--- L 100000001", b"1RB1RC_1LC---_1RA0LB H 21", b"1RB1LB_1LA0LC_---1LD_1RD0RA H 107",
     b"0RA--- T 0 1 R", b"1RA--- T 0 1 R", b"1RB0LC_1LA0LA_0RA--- C 8 16", b"1RB1LA_0LA0RB C 0 8",
     b"1RB1RC_1LB1LA_---0RB T 12 27 R", b"1RB---_1LC1RB_0RA0LC B 3", b"0RB---_1LB--- B 2",
     b"1RB---_0LA--- N 1 0,1 0,1 0A00,0A01,0B00,1A00,1B00", b"1RB1LA_1RC1RB_1LA--- U",
@@ -172,6 +182,31 @@ def compare_named(seed=1):
     for line in wrong[:20]:
         print(f"kinds: P: {line}")
     print(f"kinds: P: {len(named)} tables with a proof of their own, {len(others)} others: {len(wrong)} answered otherwise")
+    return 1 if wrong else 0
+
+
+def late_records():
+    """Records of late halts, each with its answer."""
+    for table, steps, ones in LATE_TABLES:
+        yield f"{table} L {steps} {ones}", f"{table} halts {steps} ones {ones}"
+        yield f"{table} L {steps}", f"{table} halts {steps}"
+        yield f"{table} H {steps} {ones}", "refused 202"
+        for k, s in ((steps - 1, ones), (steps + 1, ones), (steps, ones - 1), (steps, ones + 1)):
+            yield f"{table} L {k} {s}", "refused 201"
+    for k, code in ((EARLY, 303), (EARLY + 1, 201), (LATE, 201), (LATE + 1, 202), (2 ** 64 - 1, 202), (2 ** 64, 303)):
+        yield f"1RB1LB_1LA--- L {k} 4", f"refused {code}"
+
+
+def compare_late():
+    records = list(late_records())
+    text = "".join(f"{record}\n" for record, _ in records)
+    answers = subprocess.run([PROGRAM, "check"], input=text, capture_output=True, text=True, check=False).stdout.splitlines()
+    wrong = [f"{record}: {told}" for (record, due), told in zip(records, answers) if told != due]
+    if len(answers) != len(records):
+        wrong.append(f"{len(answers)} answers to {len(records)} records")
+    for line in wrong:
+        print(f"kinds: L: {line}")
+    print(f"kinds: L: {len(records)} records of late halts: {len(wrong)} answered otherwise")
     return 1 if wrong else 0
 
 
@@ -417,6 +452,8 @@ def main():
         return compare_any(*map(int, words))
     if kind == "P":
         return compare_named(*map(int, words))
+    if kind == "L" and not words:
+        return compare_late()
     if kind == "W" and words[:1] == ["follow"]:
         return follow(int(words[1]))
     if kind in CHANGED and (words[:1] == ["judge"] or words[:1] in (["change"], ["compare"]) and len(words) > 1):

@@ -373,11 +373,11 @@ With --json each answer is an object, as by `bb check --json`, with the record a
 Standard error shows the progress, as of `bb report`.
 
 With --run the numbers of a search and --hard aren't used; a table with no pair that halts still gets `B 0` where its
-run comes to no loop. Loops are looked for within 10,000,000 steps at most. Words of n-grams are tried by width from 1
-on, automata by stages (docs/FINDERS.md); --count is of both sides together. --hard has its own stages, and can't be
-given with --depth, --gram, --far, --words, --count or --rules. With --hard --steps scales the stages: with a thousand
-times the default, 1000000, a table that none of them settles takes some hours. The file of --known is read once,
-before anything else; one with lines, none of which is a record, is refused. Its lines can be in any order; for each
+run comes to no loop. A halt after more than 100,000,000 steps is a record L; loops are looked for within 10,000,000
+steps at most. Words of n-grams are tried by width from 1 on, automata by stages (docs/FINDERS.md); --count is of both
+sides together. --hard has its own stages, and can't be given with --depth, --gram, --far, --words, --count or --rules.
+With --hard --steps scales the stages: with a thousand times the default, 1000000, a table that none of them settles
+takes some hours. The file of --known is read once, before anything else; one with lines, none of which is a record, is refused. Its lines can be in any order; for each
 table the first counts that is a record of it and claims something. A record that doesn't stand is forgotten, and the
 search goes on. At a terminal standard error names the first line that is a record, at the end.
 
@@ -445,8 +445,8 @@ null where the answer has no such number, `code` and `meaning` where the line is
 is no record. With --why the words are in the object too, and not on standard error.
 
 With --why standard error says why each refused line is refused, as `line N: WORDS`. For a halting record with a wrong
-number it says in how many steps the table halts, where that is within 100,000,000, and such a line costs a run of as
-many steps. At a terminal standard error names the first line that is a table alone, at the end.
+number it says in how many steps the table halts, where that is within 100,000,000, or of a record L in the steps that
+it says, and such a line costs a run of as many steps. At a terminal standard error names the first line that is a table alone, at the end.
 
 Exit status: 0 all accepted; 1 a line was refused; 2 a wrong command line; 3 out of memory
 (`refused memory` on standard error); 4 a stream failed (`refused 603`).";

@@ -1,6 +1,7 @@
 -- The rules of a coordinator: what it answers to each event, and what becomes of its board and its leases.
 use Rattle.std.specs.Prelude.{◌≡◌, ◌⊎◌, ℕ, ◌<◌, ◌==◌, Bool, true, false, max, [], ◌∷◌, Option, Some, None, Result, Ok, Err}
-use Rattle.run.specs.declared.reach.Reach.TheVariants.{Late}
+use Rattle.run.specs.declared.reach.Reach.{Reach}
+use Rattle.run.specs.declared.reach.Reach.TheVariants.{Early, Late}
 use Rattle.kind_evidence.specs.Verdict.{refused_number}
 use Rattle.kind_evidence.specs.declared.verdicts.Refused.TheVariants.{TooLong}
 use Rattle.cert.specs.Claim.{Claim, HaltsClaim, NeverClaim, NoClaim, Recorded}
@@ -56,12 +57,17 @@ OfferRow old r out new =
     (said : Result Taken OfferFault) × OfferGives old.board.root old.board.records r said new.board.records
     × KeepsTree old.board new.board × LeasesAfter r.table said old new × RecRow old.board.format r said out
 
--- a late halt of more steps than those that are judged for a peer, where it would bring something new
+-- a late halt of more steps than those that are judged for a peer
+abbrev pub IsBeyond : Reach → ℕ → Type 0
+IsBeyond Early k = ⊥
+IsBeyond Late k = peer_step_limit < k
+
 abbrev pub IsBeyondPeers : Claim → Type 0
-IsBeyondPeers (HaltsClaim e) = (e.reach ≡ Late) × (peer_step_limit < e.steps)
+IsBeyondPeers (HaltsClaim e) = IsBeyond e.reach e.steps
 IsBeyondPeers (NeverClaim reason) = ⊥
 IsBeyondPeers NoClaim = ⊥
 
+-- it would bring something new
 pub record IsTooLate (old : Leased) (r : Recorded) : Type 0 where
   pub size : r.table.states ≡ old.board.root.states
   pub new : IsKnown old.board.records r → ⊥

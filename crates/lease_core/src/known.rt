@@ -2,7 +2,7 @@
 ghost use Rattle.std.specs.Prelude.{◌↔◌, IsTrue};
 ghost use Rattle.cert.specs.Kinds.{claim_of, recorded};
 ghost use Rattle.ledger.specs.Offers.{IsKnown};
-ghost use Rattle.lease_core.specs.CoordinatorRules.{IsBeyondPeers};
+ghost use Rattle.lease_core.specs.CoordinatorRules.{IsBeyond, IsBeyondPeers};
 
 use crate::limits::MAX_PEER_STEPS;
 use cert::{Certificate, Record};
@@ -24,7 +24,16 @@ pub(crate) fn is_beyond_peers(certificate: &Certificate<'_>) -> bool
     ensures { IsTrue result ↔ IsBeyondPeers (claim_of certificate.now) }
 {
     match certificate {
-        Certificate::Halts(e) => e.reach == Reach::Late && e.steps > MAX_PEER_STEPS,
+        Certificate::Halts(e) => is_beyond(e.reach, e.steps),
         _ => false,
+    }
+}
+
+fn is_beyond(reach: Reach, steps: u64) -> bool
+    ensures { IsTrue result ↔ IsBeyond reach steps }
+{
+    match reach {
+        Reach::Early => false,
+        Reach::Late => steps > MAX_PEER_STEPS,
     }
 }

@@ -67,7 +67,7 @@ IsBeyondPeers (HaltsClaim e) = IsBeyond e.reach e.steps
 IsBeyondPeers (NeverClaim reason) = ⊥
 IsBeyondPeers NoClaim = ⊥
 
--- it would bring something new
+-- a record with one, of a table of the root's size, that would bring something new
 pub record IsTooLate (old : Leased) (r : Recorded) : Type 0 where
   pub size : r.table.states ≡ old.board.root.states
   pub new : IsKnown old.board.records r → ⊥

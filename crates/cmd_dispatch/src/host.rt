@@ -8,16 +8,16 @@ use lease_core::Worker;
 use std::alloc::Global;
 use std::io::{Read, Write};
 use std::time::Clock;
-use system::{ProgressTold, Saying, Storage, Telling, TimedProgress, Work};
+use system::{ProgressTold, Saying, Telling, TimedProgress, Work};
 use wire::Node;
 
 // Records that were found elsewhere, if any are asked for.
 pub(crate) type KnownRecords<'a> = Option<&'a KnownFile<'a>>;
 
-/// What a command meets beside its streams: files, a clock, sockets and a terminal.
-pub trait Environment: Storage + Saying + Clock + Sockets + Network + ProgressTold {}
+/// What a command meets beside files and streams: a clock, sockets and a terminal.
+pub trait Environment: Saying + Clock + Sockets + Network + ProgressTold {}
 
-impl<S: Storage + Saying + Clock + Sockets + Network + ProgressTold> Environment for S {}
+impl<S: Saying + Clock + Sockets + Network + ProgressTold> Environment for S {}
 
 /// What a command meets.
 #[derive(Drop)]

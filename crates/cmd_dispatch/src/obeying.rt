@@ -23,7 +23,7 @@ use system::{Oddity, ProgressTold, Saying, Storage};
 /// Does what the words ask for, the program's name first, and answers how it ended. Each end is an
 /// `Outcome`: a line that can't be read or is refused too, and a stream that fails. Behind the version stands of which sources
 /// the program is.
-pub fn obey<S: Environment, R: Read, W: Write, E: Write>(
+pub fn obey<S: Environment + Storage, R: Read, W: Write, E: Write>(
     alloc: Global,
     words: Result<Vec<String>, LineFault>,
     sources: &str,
@@ -95,7 +95,7 @@ fn version_told<W: Write, E: Write>(
 }
 
 // Does what a line asks for, over this input, and says what there is to say of how it ended.
-pub(crate) fn obeyed<S: Environment, R: Read, W: Write, E: Write>(
+pub(crate) fn obeyed<S: Environment + Storage, R: Read, W: Write, E: Write>(
     alloc: Global,
     line: &CommandLine<'_>,
     system: &S,
@@ -122,7 +122,7 @@ pub(crate) fn obeyed<S: Environment, R: Read, W: Write, E: Write>(
 }
 
 // Takes the lines as they are, or leniently.
-fn taken<S: Environment, R: Read, W: Write, E: Write>(
+fn taken<S: Environment + Storage, R: Read, W: Write, E: Write>(
     alloc: Global,
     line: &CommandLine<'_>,
     system: &S,
@@ -142,7 +142,7 @@ fn taken<S: Environment, R: Read, W: Write, E: Write>(
 }
 
 // Does what is asked for; which of the streams fails is remembered.
-fn carried_out<S: Environment, R: Read, W: Write, E: Write>(
+fn carried_out<S: Environment + Storage, R: Read, W: Write, E: Write>(
     alloc: Global,
     line: &CommandLine<'_>,
     system: &S,

@@ -10,9 +10,10 @@ use cmd_words::{CommandLine, Source};
 use files::Files;
 use std::alloc::Global;
 use std::io::{Read, Write};
+use system::Storage;
 
 // Does what a line asks for, over its lines.
-pub(crate) fn obeyed_by_source<S: Environment, R: Read, W: Write, E: Write>(
+pub(crate) fn obeyed_by_source<S: Environment + Storage, R: Read, W: Write, E: Write>(
     alloc: Global,
     line: &CommandLine<'_>,
     system: &S,
@@ -38,7 +39,7 @@ pub(crate) fn obeyed_by_source<S: Environment, R: Read, W: Write, E: Write>(
 }
 
 // Over the lines of a file, which has to be there.
-fn obeyed_in_file<S: Environment, W: Write, E: Write>(
+fn obeyed_in_file<S: Environment + Storage, W: Write, E: Write>(
     alloc: Global,
     line: &CommandLine<'_>,
     path: &str,

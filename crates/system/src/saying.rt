@@ -9,7 +9,7 @@ pub struct Odd {
     pub oddity: Oddity,
 }
 
-/// One who says words on standard error, and knows what failed, and what is odd of the files that were read.
+/// One who says words on standard error, and knows what failed, what is odd of the files that were read, and which program runs.
 pub trait Saying {
     /// From now on all words are said, or only those that come unasked, where standard error isn't a terminal.
     fn say_all(&self, why: bool);
@@ -25,6 +25,9 @@ pub trait Saying {
 
     /// What failed last, and why; that is forgotten.
     fn reason(&self) -> Option<String>;
+
+    /// The SHA-256 of the running program's own bytes; none where they can't be read.
+    fn program_sum(&self) -> Option<[u8; 32]>;
 
     /// What was found odd first of the files that were read; that is forgotten.
     fn odd(&self) -> Option<Odd>;

@@ -79,14 +79,6 @@ impl<'a> Storage for System<'a> {
     fn files(&self) -> Disk<'a> {
         self.disk
     }
-
-    fn program_sum(&self) -> Option<[u8; 32]> {
-        let rt = self.disk.rt;
-        let mut file = fs::open(rt, env::current_exe(rt).ok()?).ok()?;
-        let mut bytes = Vec::new(rt.alloc());
-        file.read_to_end(&mut bytes).ok()?;
-        Some(Sha256::digest(&bytes))
-    }
 }
 
 impl Saying for System<'_> {
@@ -114,6 +106,14 @@ impl Saying for System<'_> {
 
     fn reason(&self) -> Option<String> {
         self.disk.failures.take()
+    }
+
+    fn program_sum(&self) -> Option<[u8; 32]> {
+        let rt = self.disk.rt;
+        let mut file = fs::open(rt, env::current_exe(rt).ok()?).ok()?;
+        let mut bytes = Vec::new(rt.alloc());
+        file.read_to_end(&mut bytes).ok()?;
+        Some(Sha256::digest(&bytes))
     }
 
     fn odd(&self) -> Option<Odd> {

@@ -377,9 +377,10 @@ run comes to no loop. A halt after more than 100,000,000 steps is a record L; lo
 steps at most. Words of n-grams are tried by width from 1 on, automata by stages (docs/FINDERS.md); --count is of both
 sides together. --hard has its own stages, and can't be given with --depth, --gram, --far, --words, --count or --rules.
 With --hard --steps scales the stages: with a thousand times the default, 1000000, a table that none of them settles
-takes some hours. The file of --known is read once, before anything else; one with lines, none of which is a record, is refused. Its lines can be in any order; for each
-table the first counts that is a record of it and claims something. A record that doesn't stand is forgotten, and the
-search goes on. At a terminal standard error names the first line that is a record, at the end.
+takes some hours. The file of --known is read once, before anything else; one with lines, none of which is a record, is
+refused. Its lines can be in any order; for each table the first counts that is a record of it and claims something. A
+record that doesn't stand is forgotten, and the search goes on. At a terminal standard error names the first line that
+is a record, at the end.
 
 Exit status: 0 each line was a table; 1 some wasn't; 2 a wrong command line; 3 out of memory
 (`refused memory` on standard error); 4 a stream failed (`refused 603`), or known records couldn't be

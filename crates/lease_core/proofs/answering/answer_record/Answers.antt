@@ -1,4 +1,4 @@
-use Rattle.std.proofs.Common.{ℕ, Option, inl, inr, refl, ◌∙◌, ap, subst, Ok, Err, arith}
+use Rattle.std.proofs.Common.{ℕ, Option, inr, refl, ◌∙◌, ap, subst, Ok, Err, arith}
 use Rattle.ledger.specs.declared.taken.Taken.TheVariants.{Known}
 use Rattle.ledger.specs.declared.faults.OfferFault.TheVariants.{WrongSize}
 use Rattle.lease_core.specs.Says.{NotesRefusal}

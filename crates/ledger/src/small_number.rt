@@ -7,11 +7,7 @@ pub(crate) fn number_of(kept: u64) -> Option<u64>
     ensures is { result ≡ number_of kept }
     ensures small { IsSmall result }
 {
-    if kept == 0 {
-        None
-    } else {
-        Some(kept - 1)
-    }
+    if kept == 0 { None } else { Some(kept - 1) }
 }
 
 // As what a number is kept.

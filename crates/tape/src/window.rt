@@ -4,7 +4,7 @@ ghost use Rattle.tape.specs.Windows.{Crosses, HoldsCells, IsInWindow, last_place
 ghost use Rattle.tape.specs.Places.{IsWithinLimit};
 ghost use Rattle.machine_text.specs.declared.transition.Dir.TheVariants.{L, R};
 
-use crate::bits::{window_at, symbol_at, with_window};
+use crate::bits::{symbol_at, window_at, with_window};
 use crate::tape::{LAST_BIT, NoMemory, Tape, next_word};
 use machine_text::{Dir, Sym};
 

@@ -4,6 +4,7 @@ import resource
 import subprocess
 
 HERE = os.path.dirname(os.path.abspath(__file__))
+TOP = os.path.dirname(HERE)
 
 
 def used():

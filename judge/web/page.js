@@ -131,7 +131,8 @@ function figureOf(table, steps, seen) {
   };
   field.onchange = draw;
   zooms.onchange = draw;
-  matchMedia('(prefers-color-scheme: dark)').addEventListener('change', () => picture && show());
+  // A canvas that isn't shown any more has no colour.
+  matchMedia('(prefers-color-scheme: dark)').addEventListener('change', () => picture && canvas.isConnected && show());
   queueMicrotask(draw);
   const tools = make('div', {className: 'tools'}, make('label', {}, 'Steps ', field), make('label', {}, 'Zoom ', zooms));
   return make('figure', {}, tools, caption, frame);

@@ -15,6 +15,7 @@ use Rattle.machine_text.specs.declared.faults.TextFault.{TextFault}
 use Rattle.machine_text.specs.Packed.{Packed}
 use Rattle.machine_text.specs.Text.{table_of, text_of}
 use Rattle.run.specs.Fields.{halts_by}
+use Rattle.run.specs.declared.reach.Reach.TheVariants.{Early, Late}
 use Rattle.cert.specs.Claim.{Claim, HaltsClaim, NeverClaim, NoClaim, Recorded}
 use Rattle.cert.specs.Reason.{reason_by}
 use Rattle.cert.specs.Limits.{record_byte_limit}
@@ -154,20 +155,25 @@ undecided_said (field ∷ fields) claim some e = absurd (cc)
 claim_said : (n : ℕ) (rest : List ℕ) (claim : Claim) → claim_from n (parts_of 32 rest) ≡ Ok claim → bytes_eq rest (codes "U") ≡ is_no_claim claim
 claim_said n rest claim e = by_cut (cut_at 32 rest) refl
   where
-    by_letter : (h u : Bool) → bytes_eq rest (codes "H") ≡ h → bytes_eq rest (codes "U") ≡ u
-        → cond h (made_of HaltsClaim (halts_by [])) (cond u (Ok NoClaim) (made_of NeverClaim (reason_by n rest []))) ≡ Ok claim → u ≡ is_no_claim claim
-    by_letter true true is_h is_u e =
-        let same : codes "H" ≡ codes "U" = sym (are_same rest (codes "H") is_h) ∙ are_same rest (codes "U") is_u in
-        absurd (cc)
-    by_letter true false is_h is_u e = never_said HaltsClaim (λ a. refl) (halts_by []) claim e
-    by_letter false true is_h is_u e = ap is_no_claim (let s : NoClaim ≡ claim = cc in s)
-    by_letter false false is_h is_u e = never_said NeverClaim (λ a. refl) (reason_by n rest []) claim e
+    -- what makes a claim that is some is no letter of none
+    not_u : (letter : List ℕ) → bytes_eq rest letter ≡ true → bytes_eq letter (codes "U") ≡ false → bytes_eq rest (codes "U") ≡ false
+    not_u letter is other = subst (λ (xs : List ℕ). bytes_eq xs (codes "U") ≡ false) (sym (are_same rest letter is)) other
 
-    with_fields : (h u : Bool) (kind : List ℕ) (fields : List (List ℕ)) → (fields ≡ [] → ⊥)
-        → cond h (made_of HaltsClaim (halts_by fields)) (cond u (undecided_by fields) (made_of NeverClaim (reason_by n kind fields))) ≡ Ok claim → false ≡ is_no_claim claim
-    with_fields true u kind fields some e = never_said HaltsClaim (λ a. refl) (halts_by fields) claim e
-    with_fields false true kind fields some e = undecided_said fields claim some e
-    with_fields false false kind fields some e = never_said NeverClaim (λ a. refl) (reason_by n kind fields) claim e
+    by_letter : (h l u : Bool) → bytes_eq rest (codes "H") ≡ h → bytes_eq rest (codes "L") ≡ l → bytes_eq rest (codes "U") ≡ u
+        → cond h (made_of HaltsClaim (halts_by Early [])) (cond l (made_of HaltsClaim (halts_by Late [])) (cond u (Ok NoClaim) (made_of NeverClaim (reason_by n rest [])))) ≡ Ok claim
+        → bytes_eq rest (codes "U") ≡ is_no_claim claim
+    by_letter true l u is_h is_l is_u e = not_u (codes "H") is_h refl ∙ never_said HaltsClaim (λ a. refl) (halts_by Early []) claim e
+    by_letter false true u is_h is_l is_u e = not_u (codes "L") is_l refl ∙ never_said HaltsClaim (λ a. refl) (halts_by Late []) claim e
+    by_letter false false true is_h is_l is_u e = is_u ∙ ap is_no_claim (let s : NoClaim ≡ claim = cc in s)
+    by_letter false false false is_h is_l is_u e = is_u ∙ never_said NeverClaim (λ a. refl) (reason_by n rest []) claim e
+
+    with_fields : (h l u : Bool) (kind : List ℕ) (fields : List (List ℕ)) → (fields ≡ [] → ⊥)
+        → cond h (made_of HaltsClaim (halts_by Early fields)) (cond l (made_of HaltsClaim (halts_by Late fields)) (cond u (undecided_by fields) (made_of NeverClaim (reason_by n kind fields)))) ≡ Ok claim
+        → false ≡ is_no_claim claim
+    with_fields true l u kind fields some e = never_said HaltsClaim (λ a. refl) (halts_by Early fields) claim e
+    with_fields false true u kind fields some e = never_said HaltsClaim (λ a. refl) (halts_by Late fields) claim e
+    with_fields false false true kind fields some e = undecided_said fields claim some e
+    with_fields false false false kind fields some e = never_said NeverClaim (λ a. refl) (reason_by n kind fields) claim e
 
     longer : (b : Bool) (kind fields : List ℕ) → bytes_eq rest (codes "U") ≡ b → Some (kind, fields) ≡ cut_at 32 rest → b ≡ false
     longer true kind fields is cut = absurd (apart (cut_at 32 rest) (kind, fields) cut (ap (cut_at 32) (are_same rest (codes "U") is)))
@@ -175,11 +181,11 @@ claim_said n rest claim e = by_cut (cut_at 32 rest) refl
 
     by_cut : (cut : Option (List ℕ × List ℕ)) → cut ≡ cut_at 32 rest → bytes_eq rest (codes "U") ≡ is_no_claim claim
     by_cut None is =
-        by_letter (bytes_eq rest (codes "H")) (bytes_eq rest (codes "U")) refl refl
+        by_letter (bytes_eq rest (codes "H")) (bytes_eq rest (codes "L")) (bytes_eq rest (codes "U")) refl refl refl
         (subst (λ (parts : List (List ℕ)). claim_from n parts ≡ Ok claim) (split_nowhere 32 rest is) e)
     by_cut (Some (kind, fields)) is =
         longer (bytes_eq rest (codes "U")) kind fields refl is
-        ∙ with_fields (bytes_eq kind (codes "H")) (bytes_eq kind (codes "U")) kind (parts_of 32 fields) (parts_some fields)
+        ∙ with_fields (bytes_eq kind (codes "H")) (bytes_eq kind (codes "L")) (bytes_eq kind (codes "U")) kind (parts_of 32 fields) (parts_some fields)
         (subst (λ (parts : List (List ℕ)). claim_from n parts ≡ Ok claim) (split_at_cut 32 rest kind fields is) e)
 
 record_short : (b : Bool) (o : Result Recorded RecordFault) (r : Recorded) → cond b (Err TooLong) o ≡ Ok r → o ≡ Ok r

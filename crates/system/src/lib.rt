@@ -35,6 +35,7 @@ mod share;
 mod storage;
 mod system;
 mod token_shown;
+mod turns;
 mod watch;
 mod watched_file;
 mod way;

@@ -90,6 +90,8 @@ pub(crate) struct PeerSocket {
     pub has_spoken: bool,
     // Whether it was told anything but to come later: it may have been granted a table.
     pub was_served: bool,
+    // How often in this second it was told nothing else.
+    pub put_offs: u32,
 }
 
 impl PeerSocket {
@@ -105,6 +107,7 @@ impl PeerSocket {
             heard: 0,
             has_spoken: false,
             was_served: false,
+            put_offs: 0,
         }
     }
 

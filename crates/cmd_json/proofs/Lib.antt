@@ -1,7 +1,6 @@
 pub mod Texts
 pub mod Floats
 pub mod Appended
-pub mod TreeJsons
 pub mod Characters
 pub mod Numbering
 pub mod WholeNumbers

@@ -1,16 +1,14 @@
 -- The report of a board as JSON: one object, with no space in its text, and a newline.
-use Rattle.std.specs.Prelude.{◌≡◌, ℕ, List, [], ◌∷◌, ◌++◌, Option, Some, None, codes, map}
+use Rattle.std.specs.Prelude.{ℕ, List, [], ◌∷◌, ◌++◌, Option, Some, None, codes, map}
 use Rattle.serde_json.specs.Data.{Data, null, number, unsigned, string, array, object, member, no_members}
 use Rattle.serde_json.specs.View.{items_of}
 use Rattle.serde_json.specs.Written.{compact_text}
 use Rattle.machine_text.specs.Packed.{Packed}
 use Rattle.machine_text.specs.Text.{text_of}
 use Rattle.cert.specs.Claim.{Recorded}
-use Rattle.ledger.specs.Held.{IsHoldout}
-use Rattle.ledger.specs.Tally.{AreAll, IsStatus, IsTally, IsChampion, IsOnesChampion}
 use Rattle.ledger.specs.declared.tally.Tally.{Tally}
-use Rattle.ledger.specs.declared.status.Status.{Status}
-use Rattle.cmd_ledgers.specs.Report.{status_name}
+use Rattle.cmd_ledgers.specs.Report.{IsReportIn}
+use Rattle.cmd_ledgers.specs.TreeReport.{IsTreeReportIn, TellsRadoIn}
 
 abbrev pub count_value : ℕ → Data
 count_value n = number (unsigned n)
@@ -27,8 +25,8 @@ abbrev pub tables_value : List Packed → Data
 tables_value tables = array (items_of (map table_value tables))
 
 -- the members, in the order of the bytes of their names
-abbrev pub object_of : Data → Status → Tally → Data → Data → Data → Data
-object_of root status tally champions ones_champions holdouts =
+abbrev pub object_of : Data → List ℕ → Tally → Data → Data → Data → Data
+object_of root word tally champions ones_champions holdouts =
     object (
     member (codes "best") (greatest_value tally.best) (
     member (codes "champions") champions (
@@ -41,29 +39,25 @@ object_of root status tally champions ones_champions holdouts =
     member (codes "ones_champions") ones_champions (
     member (codes "open") (count_value tally.open_count) (
     member (codes "root") root (
-    member (codes "status") (string (status_name status)) no_members))))))))))))
+    member (codes "status") (string word) no_members))))))))))))
 
-abbrev pub report_value : Packed → Status → Tally → List Packed → List Packed → List Packed → Data
-report_value root status tally champions ones_champions holdouts =
-    object_of (table_value root) status tally (tables_value champions) (tables_value ones_champions)
+abbrev pub report_value : Packed → List ℕ → Tally → List Packed → List Packed → List Packed → Data
+report_value root word tally champions ones_champions holdouts =
+    object_of (table_value root) word tally (tables_value champions) (tables_value ones_champions)
     (tables_value holdouts)
 
 -- its text, with no space, and a newline
-abbrev pub json_text : Packed → Status → Tally → List Packed → List Packed → List Packed → List ℕ
-json_text root status tally champions ones_champions holdouts =
-    compact_text (report_value root status tally champions ones_champions holdouts) ++ 10 ∷ []
+abbrev pub json_text : Packed → List ℕ → Tally → List Packed → List Packed → List Packed → List ℕ
+json_text root word tally champions ones_champions holdouts =
+    compact_text (report_value root word tally champions ones_champions holdouts) ++ 10 ∷ []
 
--- the report of a root and the records held from it: how the board stands, its tallies, its champions by steps and by
--- scores, and its holdouts, each in the order of their texts
-pub record IsJsonReport (root : Packed) (rs : List Recorded) (text : List ℕ) : Type 0 where
-  pub status : Status
-  pub tally : Tally
-  pub champions : List Packed
-  pub ones_champions : List Packed
-  pub holdouts : List Packed
-  pub stands : IsStatus root rs status
-  pub counted : IsTally root rs tally
-  pub are_champions : AreAll (IsChampion rs tally.best) champions
-  pub are_ones_champions : AreAll (IsOnesChampion rs tally.ones) ones_champions
-  pub are_holdouts : AreAll (IsHoldout rs) holdouts
-  pub is : text ≡ json_text root status tally champions ones_champions holdouts
+-- the report, in this wording, of a root and the records held from it; that of a whole tree; and that of the tree of
+-- the empty table of n states
+abbrev pub IsJsonReport : Packed → List Recorded → List ℕ → Type 0
+IsJsonReport root rs text = IsReportIn json_text root rs text
+
+abbrev pub IsTreeJson : Packed → List ℕ → Type 0
+IsTreeJson root text = IsTreeReportIn json_text root text
+
+abbrev pub JsonTellsRado : ℕ → List ℕ → Type 0
+JsonTellsRado n text = TellsRadoIn json_text n text

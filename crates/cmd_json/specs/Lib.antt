@@ -1,6 +1,5 @@
 pub mod JsonReport
 pub mod Forms
-pub mod TreeJson
 pub mod Ascii
 pub mod Numbered
 pub mod Found

@@ -15,7 +15,6 @@ mod numbered;
 mod objects;
 mod report;
 mod told;
-mod tree_reports;
 mod values;
 
 pub use checked::{check_json_for, check_json_line};
@@ -23,4 +22,3 @@ pub use decided::{decide_json_for, decide_json_line};
 pub use form::LinesOrJson;
 pub use report::report_json;
 pub use told::{explain_json_for, explain_json_line};
-pub use tree_reports::complete_boards_tell_their_tree;

@@ -6,8 +6,7 @@ ghost use Rattle.law_tree.specs.Closed.{IsComplete};
 ghost use Rattle.cert.specs.Claim.{Recorded};
 ghost use Rattle.ledger.specs.Records.{mark_in};
 ghost use Rattle.cmd_ledgers.specs.Told.{IsToldOf};
-ghost use Rattle.cmd_json.specs.JsonReport.{IsJsonReport};
-ghost use Rattle.cmd_json.specs.TreeJson.{IsTreeJson, JsonTellsRado};
+ghost use Rattle.cmd_json.specs.JsonReport.{IsJsonReport, IsTreeJson, JsonTellsRado};
 
 use crate::values::report_value;
 use cmd_ledgers::Told;
@@ -20,7 +19,6 @@ use std::alloc::Global;
 /// score, or null; `champions`, `ones_champions` and `holdout_tables` are in the order of their texts. The text of a
 /// complete board is a function of its root alone; where that root is the empty table of n states, `best` is S(n) and
 /// `ones` is Σ(n) (Radó 1962). Where memory is refused, `out` is as it was.
-#[tactic(auto, using(crate::proofs::TreeJsons::tree_json, crate::proofs::TreeJsons::json_tells_rado))]
 pub fn report_json(alloc: Global, board: &Board, out: &mut Vec<u8>) -> Result<(), NoMemory>
     ensures ok { OnOk result ((text : List ℕ) × IsJsonReport board.now.root board.now.records text
         × (out.new.items ≡ out.old.items ++ text)) }

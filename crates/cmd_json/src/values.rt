@@ -2,6 +2,7 @@
 ghost use Rattle.std.specs.Prelude.{◌≡◌, IfOk, codes};
 ghost use Rattle.std.specs.Vec.Iter.{into_iter_items};
 ghost use Rattle.serde_json.specs.View.{view};
+ghost use Rattle.cmd_ledgers.specs.Report.{status_name};
 ghost use Rattle.cmd_json.specs.JsonReport.{greatest_value, table_value, tables_value, object_of, report_value};
 
 use cmd_ledgers::status_name;
@@ -23,8 +24,8 @@ pub(crate) fn report_value(
     holdouts: Holdouts,
 ) -> Result<Value, NoMemory>
     ensures { IfOk result (λ report. view report
-        ≡ report_value root.now status tally.now (into_iter_items champions) (into_iter_items ones_champions)
-        (into_iter_items holdouts)) }
+        ≡ report_value root.now (status_name status) tally.now (into_iter_items champions)
+        (into_iter_items ones_champions) (into_iter_items holdouts)) }
 {
     let mut champions = tables_value(alloc, champions)?;
     let mut ones_champions = tables_value(alloc, ones_champions)?;
@@ -53,7 +54,7 @@ fn object_of(
     holdouts: &mut Value,
 ) -> Result<Value, NoMemory>
     ensures { IfOk result (λ report. view report
-        ≡ object_of (view root.old) status tally.now (view champions.old) (view ones_champions.old)
+        ≡ object_of (view root.old) (status_name status) tally.now (view champions.old) (view ones_champions.old)
         (view holdouts.old)) }
 {
     json!(in alloc; {

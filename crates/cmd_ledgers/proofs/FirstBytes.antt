@@ -1,5 +1,5 @@
 -- The first bytes of a reader, and the header that they have.
-use Rattle.std.proofs.Common.{◌≡◌, ◌≢◌, ℕ, ◌+◌, ◌-◌, ◌≤◌, ◌⊎◌, List, [], ◌++◌, length, take, Option, None, Some, Ok, Err, inl, inr, refl, sym, ap, ◌∙◌, subst, arith, append-nil, length-append, length-take, take_all, get_or}
+use Rattle.std.proofs.Common.{◌≡◌, ℕ, ◌+◌, ◌-◌, ◌≤◌, ◌⊎◌, List, [], ◌++◌, length, take, Option, None, Some, Ok, Err, inl, inr, refl, sym, ap, ◌∙◌, subst, arith, append-nil, length-append, length-take, take_all, get_or}
 use Rattle.std.proofs.Math.Seq.{take-append-add}
 use Rattle.std.proofs.lemmas.List.{take_at}
 use Rattle.std.specs.Io.KnownBytes.{Consumes, IsAtEnd}
@@ -69,15 +69,6 @@ module _ (old new : Option (List ℕ)) (limit : ℕ) (first : List ℕ) (begins 
       let behind = some_behind old new limit first begins.consumed begins.within in
       (first ++ behind.0, behind.1, (h.0, h.1 ++ behind.0, header_more first behind.0 h.0 h.1 h.2, h.3))
   peek_stops NoMemory h = absurd h
-
-  pub peek_begins : (root : Packed) → PeekGives first (Ok (Some root)) → BeginsWithRoot old new limit first root
-  peek_begins root peek = record { consumed = begins.consumed; within = begins.within; rest = peek.0.0; header = peek.0.1; order = peek.1 }
-
--- peeking takes no memory
-pub peek_takes_none : (first : List ℕ) (f : LoadFault) → PeekGives first (Err f) → EndedBy (ended_by_load f) ≢ EndedBy WantsMemory
-peek_takes_none first BadHeader h e = cc
-peek_takes_none first WrongRoot h e = cc
-peek_takes_none first NoMemory h e = h
 
 -- behind the header of the root
 module _ (old mid : Option (List ℕ)) (limit : ℕ) (first : List ℕ) (root : Packed) (begins : BeginsWithRoot old mid limit first root) where

@@ -28,18 +28,6 @@ outcome_by (Complete best ones) (From line kept why) = Refused
 outcome_by (Working count) left = Refused
 outcome_by (Holdouts count) left = Refused
 
--- behind what was there stands the report of the records for which the text stands
-pub record ReportsLedger (text old : List ℕ) (o : Outcome) (left : Left) (new : List ℕ) : Type 0 where
-  pub root : Packed
-  pub records : List Recorded
-  pub loads : ReadsAs root text records left
-  pub report : List ℕ
-  pub is_report : IsReport root records report
-  pub status : Status
-  pub stands : IsStatus root records status
-  pub ends : o ≡ outcome_by status left
-  pub is : new ≡ old ++ report ++ left_text left
-
 -- the report of the records, and behind it what wasn't kept
 abbrev pub IsLines : Packed → List Recorded → Left → List ℕ → Type 0
 IsLines root rs left text = (report : List ℕ) × IsReport root rs report × (text ≡ report ++ left_text left)

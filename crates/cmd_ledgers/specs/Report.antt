@@ -41,16 +41,21 @@ counts_text tally =
     ++ line_of (codes "best") (greatest_text tally.best)
 
 -- the lines before those of the tables
-abbrev pub head_text : Packed → Status → Tally → List ℕ
-head_text root status tally =
+abbrev pub head_text : Packed → List ℕ → Tally → List ℕ
+head_text root word tally =
     line_of (codes "root") (text_of root)
-    ++ line_of (codes "status") (status_name status)
+    ++ line_of (codes "status") word
     ++ counts_text tally
 
+-- how a report is worded: of a root, the word for how its board stands, its tallies, its champions by steps and by
+-- scores, and its holdouts
+abbrev pub Wording : Type 0
+Wording = Packed → List ℕ → Tally → List Packed → List Packed → List Packed → List ℕ
+
 -- behind the champions stand the greatest score and the champions by scores, and then the holdouts
-abbrev pub report_text : Packed → Status → Tally → List Packed → List Packed → List Packed → List ℕ
-report_text root status tally champions ones_champions holdouts =
-    head_text root status tally
+abbrev pub report_text : Packed → List ℕ → Tally → List Packed → List Packed → List Packed → List ℕ
+report_text root word tally champions ones_champions holdouts =
+    head_text root word tally
     ++ table_lines (codes "champion") champions
     ++ line_of (codes "ones") (greatest_text tally.ones)
     ++ table_lines (codes "ones_champion") ones_champions
@@ -58,7 +63,7 @@ report_text root status tally champions ones_champions holdouts =
 
 -- the report of a root and the records held from it: how the board stands, its tallies, its champions by steps and by
 -- scores, and its holdouts, each in the order of their texts
-pub record IsReport (root : Packed) (rs : List Recorded) (text : List ℕ) : Type 0 where
+pub record IsReportIn (wording : Wording) (root : Packed) (rs : List Recorded) (text : List ℕ) : Type 0 where
   pub status : Status
   pub tally : Tally
   pub champions : List Packed
@@ -69,4 +74,7 @@ pub record IsReport (root : Packed) (rs : List Recorded) (text : List ℕ) : Typ
   pub are_champions : AreAll (IsChampion rs tally.best) champions
   pub are_ones_champions : AreAll (IsOnesChampion rs tally.ones) ones_champions
   pub are_holdouts : AreAll (IsHoldout rs) holdouts
-  pub is : text ≡ report_text root status tally champions ones_champions holdouts
+  pub is : text ≡ wording root (status_name status) tally champions ones_champions holdouts
+
+abbrev pub IsReport : Packed → List Recorded → List ℕ → Type 0
+IsReport root rs text = IsReportIn report_text root rs text

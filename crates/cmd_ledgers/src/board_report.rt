@@ -65,7 +65,7 @@ pub(crate) fn append_head(
     tally: &Tally,
     out: &mut Vec<u8>,
 ) -> Result<(), NoMemory>
-    ensures ok { OnOk result (out.new.items ≡ out.old.items ++ head_text root.now status tally.now) }
+    ensures ok { OnOk result (out.new.items ≡ out.old.items ++ head_text root.now (status_name status) tally.now) }
     ensures kept { take (length out.old.items) out.new.items ≡ out.old.items }
 {
     append_table_line(b"root", root, out)?;

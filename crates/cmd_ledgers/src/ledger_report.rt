@@ -1,20 +1,17 @@
 // `bb report`: a ledger in, its report out.
-ghost use Rattle.std.specs.Prelude.{◌≡◌, ◌++◌, ◌^◌, ◌-◌, ℕ, List, IfOk, IfErr, OnOk, Ok, Err, Option, Result, false};
+ghost use Rattle.std.specs.Prelude.{◌≡◌, ◌^◌, ◌-◌, ℕ, List, IfOk, IfErr, OnOk, Ok, Err, Option, Result, false};
 ghost use Rattle.std.specs.Io.KnownBytes.{Appends};
 ghost use Rattle.cmd_options.specs.declared.outcome.Outcome.{Outcome as Outcomes};
 ghost use Rattle.cmd_options.specs.declared.ended.Ended.{Ended as Ends};
 ghost use Rattle.cmd_options.specs.Ends.{EndsTold, PrintsNothing};
 ghost use Rattle.cmd_ledgers.specs.AtPath.{IsAt};
-ghost use Rattle.cmd_ledgers.specs.LedgerReport.{ReportsLedger, left_text, outcome_by};
+ghost use Rattle.cmd_ledgers.specs.LedgerReport.{outcome_by};
 ghost use Rattle.cmd_ledgers.specs.Merge.{IsLoaded};
-ghost use Rattle.cmd_ledgers.specs.Reading.{AreFirstBytes, EndsReading};
-ghost use Rattle.cmd_ledgers.specs.Report.{IsReport};
+ghost use Rattle.cmd_ledgers.specs.Reading.{AreFirstBytes};
 ghost use Rattle.cmd_ledgers.specs.Reporting.{ReportsFrom, SaysWhy, WritesReport};
 
-use crate::board_report::report;
 use crate::reading::load_from;
 use crate::report_form::{ReportForm, write_report};
-use crate::report_writer::append_left;
 use crate::source::{AtPath, load_source};
 use cmd_options::{Ended, Outcome, Stopped, ended_by, told};
 use files::Files;
@@ -197,35 +194,7 @@ fn say<E: Write>(reason: &Option<String>, faults: &mut E) -> Result<(), Ended>
     }
 }
 
-/// Appends the report of the ledger that a reader has in its first bytes, up to a limit, and `left LINE` where not
-/// all of it is kept: accepted where the board is complete and all was kept. Answers what is left as well.
-pub fn report_ledger<R: Read>(
-    alloc: Global,
-    from: &mut R,
-    limit: u64,
-    out: &mut Vec<u8>,
-) -> Result<(Outcome, Left), Stopped>
-    ensures ok { IfOk result (λ r. (text : List ℕ) × AreFirstBytes (R.remaining from.old) limit text
-        × ReportsLedger text out.old.items r.0 r.1 out.new.items) }
-    ensures err { IfErr result (EndsReading (R.remaining from.old) limit) }
-{
-    let (board, left) = load_from(alloc, from, limit)?;
-    append_ledger_report(&board, &left, out)?;
-    Ok((outcome_by(board.status(), &left), left))
-}
-
-// Appends the report of a board, and what wasn't kept of its ledger.
-fn append_ledger_report(board: &Board, left: &Left, out: &mut Vec<u8>) -> Result<(), Stopped>
-    ensures ok { OnOk result ((text : List ℕ) × IsReport board.now.root board.now.records text
-        × (out.new.items ≡ out.old.items ++ text ++ left_text left.now)) }
-    ensures err { IfErr result (λ e. e ≡ Stopped.Ended Ended.NoMemory) }
-{
-    report(board, out)?;
-    append_left(left, out)?;
-    Ok(())
-}
-
-// Accepted where a board is complete and all of its ledger was kept.
+/// Accepted where a board is complete and all of its ledger was kept.
 pub fn outcome_by(status: Status, left: &Left) -> Outcome
     ensures { result ≡ outcome_by status left.now }
 {

@@ -35,7 +35,7 @@ pub use faults::by_load;
 pub use gathering::{write_due, write_lines};
 pub use going_on::{cut_off, load_held, open_held};
 pub use ledger_changes::keep_answer;
-pub use ledger_report::{cmd_report, cmd_report_stream, outcome_by, report_board, report_ledger};
+pub use ledger_report::{cmd_report, cmd_report_stream, outcome_by, report_board};
 pub use mend::{cmd_mend, cmd_mend_stream};
 pub use mending::{mend_from, mend_into};
 pub use merge::{cmd_merge, merge_into, merge_of};

@@ -1,11 +1,7 @@
 -- Frames that are fulfilled one after another.
-use Rattle.std.proofs.Common.{◌≡◌, ℕ, List, [], ◌∷◌, ◌++◌, Option, None, refl, sym, ap, ◌∙◌, append_assoc}
-use Rattle.text.specs.Lines.{HasNoNewline, BeginsWithLine}
+use Rattle.std.proofs.Common.{◌≡◌, ℕ, List, [], ◌∷◌, ◌++◌, Option, None, sym, ap, ◌∙◌, append_assoc}
+use Rattle.text.specs.Lines.{BeginsWithLine}
 use Rattle.cmd_nodes.specs.Losses.{AreFrames, Delivers, counted_on, delivered_of, left_of}
-
--- nothing but a beginning of a frame
-pub carries_rest : (every : Option ℕ) (before : ℕ) (rest : List ℕ) → HasNoNewline rest → Delivers every before rest rest before
-carries_rest every before rest none = record { frames = []; rest = rest; are_frames = (refl, none); is = refl; count = refl }
 
 -- a frame, and what is fulfilled behind it
 pub carries_frame : (every : Option ℕ) (before after : ℕ) (text frame more delivered : List ℕ) → BeginsWithLine text frame more → Delivers every (counted_on before) more delivered after

@@ -3,7 +3,7 @@ use Rattle.std.proofs.Common.{◌≡◌, ◌≤◌, ◌+◌, ◌-◌, ℕ, List,
 use Rattle.std.specs.Prelude.{IfErr, IsErrAnd, min}
 use Rattle.std.proofs.lemmas.List.{take_all, length-take}
 use Rattle.std.specs.Io.KnownBytes.{Appends, Consumes}
-use Rattle.std.proofs.KnownBytes.{Appends-nil, Appends-trans, Consumes-nil, Consumes-trans}
+use Rattle.std.proofs.KnownBytes.{Appends-trans, Consumes-nil, Consumes-trans}
 use Rattle.wire.specs.Limits.{piece_byte_limit}
 use Rattle.wire.specs.Memory.{MemoryLink}
 use Rattle.cmd_options.specs.declared.ended.Ended.{Ended}
@@ -20,10 +20,6 @@ went_on w1 c1 d1 w2 c2 d2 a b e x y = record {
 
 pub moved_on : (s1 s2 : List ℕ) (a b e : Way) → HasMoved s1 a b → HasMoved s2 b e → HasMoved (s1 ++ s2) a e
 moved_on s1 s2 a b e x y = (x.0 ++ y.0, length-append x.0 y.0 ∙ (ap (λ n. n + length y.0) x.1 ∙ (ap (λ n. length s1 + n) y.1 ∙ sym (length-append s1 s2))), went_on s1 x.0 x.0 s2 y.0 y.0 a b e x.2 y.2)
-
--- nothing is moved yet
-pub moved_none : (a : Way) → HasMoved [] a a
-moved_none a = ([], refl, record { writes = Appends-nil a.given; reads = Consumes-nil a.ready; delivers = sym (append-nil a.waiting) })
 
 -- what was moved before a fault, and what stands behind
 pub broken_on : (fault : Ended) (done piece rest sent : List ℕ) (a b e : Way) → HasMoved done a b → StopsMoving fault piece b e → sent ≡ done ++ (piece ++ rest) → StopsMoving fault sent a e

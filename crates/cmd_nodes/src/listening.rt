@@ -8,9 +8,9 @@ ghost use Rattle.peers.specs.Connections.{TakesAsBefore};
 ghost use Rattle.peers.specs.Guarded.{unheard};
 ghost use Rattle.peers.specs.Served.{Served, served};
 ghost use Rattle.cmd_nodes.specs.Listened.{HasListened, Listens, ListensFrom, ListensUntil, traffic};
-ghost use Rattle.cmd_nodes.specs.Served.{Becomes, IsBegunFrom};
+ghost use Rattle.cmd_nodes.specs.Served.{IsBegunFrom};
 ghost use Rattle.cmd_nodes.specs.Settled.{IsBegunOfPart, IsSettledBoard, SettlesPart};
-ghost use Rattle.cmd_nodes.specs.inside.{IsServed, IsSettled, KeepsStep};
+ghost use Rattle.cmd_nodes.specs.inside.{IsServed, IsSettled};
 
 use crate::coord::{start_coordinator, start_part};
 use crate::faults::by_turn;
@@ -23,7 +23,7 @@ use lease_core::Coordinator;
 use peers::{Conduct, Connections, Guarded, Peers, serve};
 use std::alloc::Global;
 use std::io::{self, Read, Write};
-use wire::{LedgerOut, Node, TurnFault};
+use wire::LedgerOut;
 
 // How many bytes of a peer are taken at once: some more than an honest one has ready, so that one who sends without a pause
 // gets no larger share of the coordinator.
@@ -213,35 +213,10 @@ fn serve_once<L: LedgerOut, K: Connections>(
         (traffic (K.arrived connections.new) (K.sent connections.new))) }
     ensures takes { TakesAsBefore (K.takes connections.old) (K.takes connections.new) }
 {
-    match serve_next(connections, piece, peers, node, ledger) {
+    match serve(connections, piece, peers, node, ledger, 1) {
         Ok(()) => Ok(()),
         Err(fault) => Err(by_turn(fault)),
     }
-}
-
-// Takes what comes next.
-fn serve_next<N: Node, L: LedgerOut, K: Connections>(
-    connections: &mut K,
-    piece: &mut [u8],
-    peers: &mut Peers,
-    node: &mut Guarded<N>,
-    ledger: &mut L,
-) -> Result<(), TurnFault>
-    ensures became { OnOk result (Becomes N.answers node.old.node node.new.node) }
-    ensures step { OnOk result
-        (KeepsStep N.in_step node.old.node node.new.node (L.text ledger.old) (L.text ledger.new)) }
-    ensures listens { OnOk result (Listens N.answers (K.takes connections.old)
-        (served node.old (L.text ledger.old) peers.old) (served node.new (L.text ledger.new) peers.new) None
-        (traffic (K.arrived connections.old) (K.sent connections.old))
-        (traffic (K.arrived connections.new) (K.sent connections.new))) }
-    ensures early { OnErr result (ListensFrom N.answers (K.takes connections.old)
-        (served node.old (L.text ledger.old) peers.old)
-        (traffic (K.arrived connections.old) (K.sent connections.old))
-        (traffic (K.arrived connections.new) (K.sent connections.new))) }
-    ensures takes { TakesAsBefore (K.takes connections.old) (K.takes connections.new) }
-{
-    serve(connections, piece, peers, node, ledger, 1)?;
-    Ok(())
 }
 
 // Whether workers were waited for long enough, since this was asked first.

@@ -11,7 +11,7 @@ use crate::couriers::OverSockets;
 use crate::run_command::{Run, settle};
 use crate::sockets::Sockets;
 use cmd_ledgers::ReportForm;
-use cmd_options::{Ended, Outcome, told};
+use cmd_options::{Outcome, told};
 use files::{Opened, Progress};
 use std::alloc::Global;
 use std::io::{self, Read, Write};
@@ -49,35 +49,9 @@ pub fn cmd_loop<
         (L.text ledger.new)) (W.contents answers.old) (W.contents answers.new) ended
         × EndsTold ended said (E.contents faults.new) result }
 {
+    let couriers = OverSockets { sockets };
     told(
-        loop_tree(alloc, run, sockets, held, ledger, progress, answers),
+        settle(alloc, run, &couriers, held, ledger, progress, answers),
         faults,
     )
-}
-
-// Settles as `cmd_loop` does, but answers what ends it early, and doesn't say it.
-fn loop_tree<
-    P: ReportForm,
-    F: Read + Drop,
-    L: LedgerOut,
-    N: Node + Drop,
-    S: Sockets,
-    G: Progress,
-    W: Write,
->(
-    alloc: Global,
-    run: Run<'_, P, N>,
-    sockets: &S,
-    held: io::Result<Opened<F>>,
-    ledger: &mut L,
-    progress: &mut G,
-    answers: &mut W,
-) -> Result<Outcome, Ended>
-    requires { (1 ≤ run.settling.now.states) × (run.settling.now.states ≤ state_limit) }
-    ensures { SettlesTree (P.is_text run.entry.form.now) run.entry.settling.now.states
-        (IsRunBoard N.answers run.entry.settling.now run.entry.workers.items F.remaining held (L.text ledger.old)
-        (L.text ledger.new)) (W.contents answers.old) (W.contents answers.new) result }
-{
-    let couriers = OverSockets { sockets };
-    settle(alloc, run, &couriers, held, ledger, progress, answers)
 }

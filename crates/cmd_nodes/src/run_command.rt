@@ -64,30 +64,13 @@ pub fn cmd_run<
         (L.text ledger.new)) (W.contents answers.old) (W.contents answers.new) ended
         × EndsTold ended said (E.contents faults.new) result }
 {
-    told(
-        run_tree(alloc, run, held, ledger, progress, answers),
-        faults,
-    )
-}
-
-// Settles as `cmd_run` does, but answers what ends it early, and doesn't say it.
-fn run_tree<P: ReportForm, F: Read + Drop, L: LedgerOut, N: Node + Drop, G: Progress, W: Write>(
-    alloc: Global,
-    run: Run<'_, P, N>,
-    held: io::Result<Opened<F>>,
-    ledger: &mut L,
-    progress: &mut G,
-    answers: &mut W,
-) -> Result<Outcome, Ended>
-    requires { (1 ≤ run.settling.now.states) × (run.settling.now.states ≤ state_limit) }
-    ensures { SettlesTree (P.is_text run.entry.form.now) run.entry.settling.now.states
-        (IsRunBoard N.answers run.entry.settling.now run.entry.workers.items F.remaining held (L.text ledger.old)
-        (L.text ledger.new)) (W.contents answers.old) (W.contents answers.new) result }
-{
     let couriers = InMemory {
         lose: run.settling.lose,
     };
-    settle(alloc, run, &couriers, held, ledger, progress, answers)
+    told(
+        settle(alloc, run, &couriers, held, ledger, progress, answers),
+        faults,
+    )
 }
 
 // A coordinator that is settled by its workers, and its report.

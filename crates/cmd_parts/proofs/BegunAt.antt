@@ -1,13 +1,13 @@
 -- Parts that are begun one after another, by what stands at their paths.
-use Rattle.std.proofs.Common.{◌≡◌, List, [], ◌∷◌, ℕ, Option, Some, None, false, inl, inr, refl, subst}
+use Rattle.std.proofs.Common.{◌≡◌, List, [], ◌∷◌, ℕ, Option, Some, None, false, inl, inr, refl}
 use Rattle.machine_text.specs.Packed.{Packed}
 use Rattle.machine_text.specs.Text.{text_of}
 use Rattle.cert.specs.Claim.{Recorded}
 use Rattle.ledger.specs.Contents.{Contents}
 use Rattle.wire.specs.Device.{IsBegun, shortened}
-use Rattle.files.specs.Paths.{IsKept, IsKeptBut, IsLedgerAt, IsPut, IsToldStill, Known, SameFile, Shelf}
+use Rattle.files.specs.Paths.{IsKeptBut, IsLedgerAt, IsPut, IsToldStill, SameFile, Shelf}
 use Rattle.cmd_ledgers.proofs.GoneOn.{put_told}
-use Rattle.cmd_parts.specs.AtPaths.{AreBegunAt, GrowsAt, IsCreated, IsPartBegun, IsPartMade, IsSizeAt, LeavesPartAt, LeavesPartsAt, LeavesTrunkAt, TrunkGoesOnAt}
+use Rattle.cmd_parts.specs.AtPaths.{AreBegunAt, GrowsAt, IsPartBegun, IsPartMade, IsSizeAt, LeavesPartAt, LeavesPartsAt, LeavesTrunkAt, TrunkGoesOnAt}
 use Rattle.cmd_parts.specs.Split.{GrowsTrunk, LeavesBegun, LeavesTrunk, begun_part, path_within}
 
 -- what is told of paths before is told of them still, so that a part is made so by what was told before too
@@ -51,11 +51,6 @@ made_at Does tells later path old opened new before after size ledger is_size ke
 pub begun_none : (text : Option (List ℕ)) (bytes : List ℕ) → IsBegun (shortened 0 text) bytes (shortened 0 text)
 begun_none None bytes = (0, refl)
 begun_none (Some text) bytes = (0, refl)
-
--- a file that is created, once nothing has changed
-pub created_at : (tells later : SameFile) (path : List ℕ) (old mid new : Shelf) → IsKept old mid → IsToldStill tells later → IsCreated later path mid new → IsCreated tells path old new
-created_at tells later path old mid new kept still (text, is, put) =
-    (text, subst (λ (k : Known). IsLedgerAt k text) (kept path) is, put_told tells later path text old mid new (λ other apart. kept other) still put)
 
 -- a trunk that is gone on with
 trunk_told : (Does : (Packed → Type 0) → Option (List ℕ) → ℕ → Option (List ℕ) → Option (List ℕ) → Type 0) (tells later : SameFile) (folder path : List ℕ) (old new : Shelf) → IsToldStill tells later

@@ -1,29 +1,20 @@
 -- Tables that have each entry of a root.
-use Rattle.std.proofs.Common.{◌≡◌, ℕ, ◌+◌, ◌<◌, ◌≤◌, arith, inl, inr, Option, Some, None, IfOk, Result, Ok, Err, Bool, true, false, refl, sym, ap, ◌∙◌, subst}
+use Rattle.std.proofs.Common.{◌≡◌, ℕ, ◌+◌, ◌<◌, ◌≤◌, arith, inl, inr, Option, Some, None, IfOk, Result, Ok, Err, Bool, true, false, sym, ap, ◌∙◌, subst}
 use Rattle.std.proofs.lemmas.Bool.{cases_lt}
 use Rattle.machine_text.specs.Packed.{Packed, IsTable, entry_of}
 use Rattle.machine_text.specs.declared.transition.Entry.{Entry}
 use Rattle.machine_text.specs.declared.transition.Sym.{Sym}
 use Rattle.machine_text.specs.declared.transition.Sym.TheVariants.{Zero, One}
 use Rattle.machine_text.proofs.RoundTrip.{none_beyond}
-use Rattle.law_turing.specs.Extension.{Extends}
 use Rattle.cmd_parts.specs.Tables.{ComesOf, StaysEntry}
 
 -- the entries at a state stay
 abbrev pub StaysRow : Packed → Packed → ℕ → Type 0
 StaysRow t root q = StaysEntry (entry_of root q Zero) (entry_of t q Zero) × StaysEntry (entry_of root q One) (entry_of t q One)
 
-stays_as : (own other : Option Entry) → ((e : Entry) → own ≡ Some e → other ≡ Some e) → StaysEntry own other
-stays_as None other same = tt
-stays_as (Some e) other same = same e refl
-
 as_stays : (own other : Option Entry) → StaysEntry own other → (e : Entry) → own ≡ Some e → other ≡ Some e
 as_stays None other stays e is = cc
 as_stays (Some d) other stays e is = stays ∙ is
-
--- of a root each row stays
-pub row_stays : (t root : Packed) → ComesOf t root → (q : ℕ) → StaysRow t root q
-row_stays t root of q = (stays_as (entry_of root q Zero) (entry_of t q Zero) (of.1.is q Zero), stays_as (entry_of root q One) (entry_of t q One) (of.1.is q One))
 
 entry_stays : (t root : Packed) → (q : ℕ) (s : Sym) → StaysRow t root q → StaysEntry (entry_of root q s) (entry_of t q s)
 entry_stays t root q Zero stays = stays.0

@@ -1,19 +1,16 @@
 -- Lines that are answered by what is kept from one to the next.
 use Rattle.std.proofs.Common.{◌≡◌, ℕ, List, [], ◌∷◌, ◌++◌, Option, Some, None, ◌∙◌, ap, sym, subst, append_assoc, refl}
-use Rattle.std.specs.Prelude.{IfSome}
 use Rattle.text.specs.Lines.{BoundedLine}
 use Rattle.machine_text.specs.Packed.{Packed}
 use Rattle.ledger.specs.Contents.{Contents}
 use Rattle.cmd_options.specs.declared.outcome.Outcome.{Outcome}
-use Rattle.cmd_options.specs.declared.ended.Ended.{Ended}
-use Rattle.cmd_lines.proofs.Early.{said_so}
 use Rattle.cmd_lines.specs.First.{AnswersFirst, IsSaidToFirst, WritesFirst}
 use Rattle.cmd_lines.specs.Said.{AreTakenBy, TakesStream}
 use Rattle.cmd_lines.specs.Stream.{AnswersStream, AreAnswered}
 use Rattle.cmd_parts.specs.Join.{Findings, IsMet}
 use Rattle.cmd_parts.specs.Tables.{SaysByBoard, SaysOfLine, SaysWith}
 use Rattle.cmd_parts.specs.Look.{SaysByFolder}
-use Rattle.cmd_parts.specs.inside.Looking.{HoldsPartOf, IsFound, KeepsPart, LooksIn}
+use Rattle.cmd_parts.specs.inside.Looking.{IsFound, KeepsPart, LooksIn}
 
 -- what each line keeps, where it is answered so, is kept by all
 lines_kept : {D : Type 0} (Takes : D → BoundedLine → Outcome → D → List ℕ → Type 0) (Keeps : D → Type 0) (Says : BoundedLine → Outcome → List ℕ → Type 0)
@@ -96,7 +93,3 @@ module _ {D S : Type 0} (parts : D → S) (Finds : S → Findings) (folder : D �
 pub found_kept : (Finds : Findings) (folder : List ℕ) (root : Packed) (found : Option Contents) → IsFound Finds folder root found → KeepsPart Finds folder found
 found_kept Finds folder root None is = tt
 found_kept Finds folder root (Some part) is = (is.0.0, subst (λ (r : Packed). IsMet Finds folder r (Some part) is.0.0) (sym is.1) is.0.1)
-
-pub kept_found : (Finds : Findings) (folder : List ℕ) (root : Packed) (part : Option Contents) → HoldsPartOf part root → KeepsPart Finds folder part → IsFound Finds folder root part
-kept_found Finds folder root None has is = absurd has
-kept_found Finds folder root (Some part) has is = ((is.0, subst (λ (r : Packed). IsMet Finds folder r (Some part) is.0) has is.1), has)

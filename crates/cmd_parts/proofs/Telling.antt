@@ -1,6 +1,6 @@
 -- What is told of the ledgers that were taken.
 use Rattle.std.proofs.Common.{◌≡◌, ◌⊎◌, inl, inr, ℕ, Bool, true, false, IfErr, IfOk, List, [], ◌∷◌, ◌++◌, Option, Some, None, Result, Ok, Err, sym, ◌∙◌, ap, subst, refl, append_assoc, append-nil}
-use Rattle.std.proofs.KnownBytes.{Appends-nil, Appends-trans}
+use Rattle.std.proofs.KnownBytes.{Appends-trans}
 use Rattle.std.specs.Prelude.{codes}
 use Rattle.std.specs.Io.KnownBytes.{Appends}
 use Rattle.std.specs.List.{Contains}
@@ -56,18 +56,6 @@ counted_so part left old new came new_came (Ok sound) faults new_faults name is 
   says = subst (λ (n : List ℕ). Appends faults new_faults (left_line n left)) is h.1;
 }
 counted_so part left old new came new_came (Err e) faults new_faults name is gives put h = tt
-
--- what is added of a board is added of its text
-pub loaded_so : (number : ℕ) (text : List ℕ) (part : Contents) (left : Left) (old new : Collected) (came new_came : List Packed) (r : Result Bool Ended) (faults new_faults : Option (List ℕ)) → IsLoadedAs text part left
-    → IfOk r (λ sound. SaysAdding (AddsBoard part left old came new new_came) sound faults new_faults) → IfOk r (λ sound. SaysAdding (AddsPart number text old came new new_came) sound faults new_faults)
-loaded_so number text part left old new came new_came (Ok sound) faults new_faults loaded h = record {
-  counted = h.counted;
-  said = h.said;
-  adds = inl (part, left, loaded, h.adds);
-  sound = h.sound;
-  says = h.says;
-}
-loaded_so number text part left old new came new_came (Err e) faults new_faults loaded h = tt
 
 among : (parts : List Contents) (old : Collected) (root : Packed) → IsWhole old parts → Contains old.roots root → Contains (roots_of parts) root
 among parts old root whole at = subst (λ (l : List Packed). Contains l root) whole.roots_are at
@@ -253,9 +241,6 @@ missed_push came [] root lines said none missed =
 missed_push came (r ∷ roots) root lines said (one, more, first, later, is) missed =
     (one, more ++ said, first, missed_push came roots root more said later missed, ap (λ (l : List ℕ). l ++ said) is ∙ append_assoc one more said)
 
-pub none_missed : (came : List Packed) (faults : Option (List ℕ)) → SaysMissed came [] true faults faults
-none_missed came faults = record { lines = []; are_missed = refl; sound = refl; says = Appends-nil faults }
-
 pub one_missed : (came roots : List Packed) (root : Packed) (a b c : Bool) (faults mid new_faults : Option (List ℕ)) → SaysMissed came roots a faults mid
     → SaysRoot came root b mid new_faults → (b ≡ true → c ≡ a) → (b ≡ false → c ≡ false) → SaysMissed came (roots ++ root ∷ []) c faults new_faults
 one_missed came roots root a b c faults mid new_faults so one both neither = record {
@@ -265,10 +250,7 @@ one_missed came roots root a b c faults mid new_faults so one both neither = rec
   says = Appends-trans faults mid new_faults so.lines one.said so.says one.says;
 }
 
--- a root that is there, and one that isn't
-pub root_there : (came : List Packed) (root : Packed) (faults : Option (List ℕ)) → Contains came root → SaysRoot came root true faults faults
-root_there came root faults at = record { said = []; is_missed = inl (at, refl); sound = refl; says = Appends-nil faults }
-
+-- a root that isn't there
 pub root_missing : (came : List Packed) (root : Packed) (r : Result Bool Ended) (faults new_faults : Option (List ℕ)) (name : List ℕ) → (Contains came root → ⊥) → name ≡ text_of root
     → IfOk r (λ sound. (sound ≡ false) × Appends faults new_faults (line_behind name (codes "missing"))) → IfOk r (λ sound. SaysRoot came root sound faults new_faults)
 root_missing came root (Ok sound) faults new_faults name none is h = record {
@@ -292,6 +274,3 @@ pub joins_so : (IsText : Packed → List Recorded → Left → List ℕ → Type
     → JoinsStream IsText read new_read said new_said faults new_faults r
 joins_so IsText (Ok o) read new_read said new_said faults new_faults tells silent warns = tells
 joins_so IsText (Err e) read new_read said new_said faults new_faults tells silent warns = (silent, warns)
-
-pub not_both : (b : Bool) → b ≡ true → b ≡ false → ⊥
-not_both b holds fails = let clash : true ≡ false = sym holds ∙ fails in absurd (cc)

@@ -3,13 +3,12 @@ use Rattle.std.proofs.Common.{◌≡◌, ◌∙◌, refl, sym, subst, ap, inl, i
 use Rattle.std.specs.Prelude.{◌⊎◌, Option, Some, None}
 use Rattle.std.proofs.lemmas.List.{map-append}
 use Rattle.std.proofs.lemmas.List.Concat.{flat_map-append}
-use Rattle.wire.specs.declared.turned.TurnFault.{TurnFault}
 use Rattle.wire.specs.Device.{grown}
 use Rattle.wire.specs.Fulfilled.{Answering, Reply}
 use Rattle.peers.specs.Connections.{Incoming, Taking, TakesAsBefore, noted}
 use Rattle.peers.specs.Peers.{PeerState, peer_at, due_at}
-use Rattle.peers.specs.Served.{Served, Exchange, Flushes, Rounds, all_came, asker, noted_if, served}
-use Rattle.peers.specs.Sent.{BreaksOff, Serves, IsSent, IsGone, answer_frames, answers_to, replies_to}
+use Rattle.peers.specs.Served.{Served, Exchange, Flushes, Rounds, all_came, asker, served}
+use Rattle.peers.specs.Sent.{Serves, IsSent, IsGone, answer_frames, answers_to, replies_to}
 use Rattle.peers.proofs.Joining.{flushed_gone, rounds_gone}
 use Rattle.peers.proofs.Sending.{Becomes, Adds, Leaves, becomes, grown_none, grown_twice}
 
@@ -113,18 +112,3 @@ module _ {N : Type 0} (answers : Answering N) where
           rounds = rounds_on takes old at new before after first.rounds rounds;
           sent = λ place. sent_on takes place before after old.peers at new (sent place) (sent' place) (sent'' place) (first.sent place) rounds (then.sent place);
         }
-
-    -- and then a fault
-    pub breaks_on : (is_stopped : N → Type 0) (fault : TurnFault) (new : Served N) (sent'' : ℕ → Option (List ℕ)) (arrived arrived' arrived'' : Option (List Incoming))
-        → arrived' ≡ noted arrived (all_came before) → BreaksOff answers is_stopped takes' at fault new sent' sent'' arrived' arrived''
-        → BreaksOff answers is_stopped takes old fault new sent sent'' arrived arrived''
-    breaks_on is_stopped fault new sent'' arrived arrived' arrived'' came broken = record {
-      exchanges = before ++ broken.exchanges;
-      at = broken.at;
-      last = broken.last;
-      before = serves_on broken.exchanges broken.at sent'' broken.before;
-      fails = broken.fails;
-      came = broken.came
-          ∙ ap (λ (a : Option (List Incoming)). noted_if a broken.last)
-          (ap (λ (a : Option (List Incoming)). noted a (all_came broken.exchanges)) came ∙ noted_on arrived before broken.exchanges);
-    }

@@ -177,10 +177,6 @@ line_passes takes guard line p out said new is tells cut append = record {
   append = append;
 }
 
-pub line_handed : (takes : Bool) (guard : GuardState) (line : List ℕ) (p : Passage) → IsPassage takes guard line p
-    → IsHanded guard.dismissal takes guard line (handed_line guard line p)
-line_handed takes guard line p is = is_handed takes guard line p is
-
 -- 4. One line after another
 
 some_same : {X : Type 0} (x y : X) → Some x ≡ Some y → x ≡ y

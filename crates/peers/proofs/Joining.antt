@@ -23,12 +23,6 @@ record Says (place : ℕ) (said : List ℕ) (came : Incoming) (replies : List Re
       ≡ events_of (lines_from (Some []) (said ++ bytes_from place came))
   says : HasSaid (said ++ bytes_from place came) new
 
-events_from : List ℕ → List Happening
-events_from bytes = events_of (lines_from (Some []) bytes)
-
-stream_from : List ℕ → Stream
-stream_from bytes = record { waiting = []; rest = rest_from (Some []) bytes }
-
 -- nothing comes from it
 silent : (place : ℕ) (said : List ℕ) (came : Incoming) (replies : List Reply) (new : PeerState)
     → bytes_from place came ≡ [] → answers_to place came replies ≡ [] → HasSaid said new → Says place said came replies new

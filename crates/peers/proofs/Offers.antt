@@ -4,17 +4,13 @@ use Rattle.std.specs.Prelude.{Option, Some, Result, Ok, Err, slice_get}
 use Rattle.text.specs.Lines.{BoundedLine}
 use Rattle.wire.specs.declared.node.Out.{Out}
 use Rattle.wire.specs.declared.turned.TurnFault.{TurnFault}
-use Rattle.wire.specs.Grammar.{message_of}
 use Rattle.wire.specs.Happening.{Came}
 use Rattle.wire.specs.Fulfilled.{Answering}
-use Rattle.wire.specs.Turned.{frame_of}
 use Rattle.peers.specs.declared.pool_core.Core.{Core}
 use Rattle.peers.specs.declared.course.Course.{Course}
-use Rattle.peers.specs.declared.frames.Heard.{Heard}
 use Rattle.peers.specs.Crew.{Hall, hall}
-use Rattle.peers.specs.Frames.{heard_as}
 use Rattle.peers.specs.Handed.{Handed, without_answer}
-use Rattle.peers.specs.Hearing.{AfterAnswer, AfterNote, AnswersOldest, HearsAll, HearsAs, HearsLine, Offers, TakesWord, has_it, next_place, with_course}
+use Rattle.peers.specs.Hearing.{AfterAnswer, AfterNote, AnswersOldest, HearsAll, HearsLine, Offers, TakesWord, has_it, next_place, with_course}
 
 module _ {N W : Type 0} (answers : Answering N) (is_stopped : N → Type 0) (text : W → Option (List ℕ)) where
   pub offers_none : (place : ℕ) (frame : List ℕ) (old : Hall N W) → Offers answers is_stopped text 0 place frame (Ok tt) old old
@@ -67,20 +63,6 @@ module _ {N W : Type 0} (answers : Answering N) (is_stopped : N → Type 0) (tex
   oldest_answered course frame asks rest place core answer old mid at new is stands same handed after =
       subst (λ (asks : List ℕ). AnswersOldest answers is_stopped text course frame asks (without_answer answer) old new) (sym is)
       (core, stands, answer, at, subst (λ h. Handed answers is_stopped text place (Came frame) answer h at) same handed, after, refl)
-
-  -- none was unanswered
-  pub none_answered : (course : Course) (frame asks : List ℕ) (old new : Hall N W) → asks ≡ [] → new ≡ old
-      → AnswersOldest answers is_stopped text course frame asks (Ok tt) old new
-  none_answered course frame asks old new is same =
-      subst (λ (asks : List ℕ). AnswersOldest answers is_stopped text course frame asks (Ok tt) old new) (sym is) (refl, same)
-
-  -- a line, by what was made of it
-  pub line_heard : (line : BoundedLine) (frame : List ℕ) (heard : Heard) (result : Result (Unit {0}) TurnFault) (old new : Hall N W)
-      → frame ≡ frame_of line → heard ≡ heard_as (message_of frame) → HearsAs answers is_stopped text heard frame result old new
-      → HearsLine answers is_stopped text line result old new
-  line_heard line frame heard result old new is made hears =
-      subst (λ (f : List ℕ). HearsAs answers is_stopped text (heard_as (message_of f)) f result old new) is
-      (subst (λ h. HearsAs answers is_stopped text h frame result old new) made hears)
 
   pub heard_none : (old : Hall N W) → HearsAll answers is_stopped text [] (Ok tt) [] old old
   unfolding HearsAll

@@ -1,6 +1,7 @@
 // The connection of a worker's process with its coordinator.
 use crate::address::Address;
 use crate::failures::Failures;
+use crate::socket::Socket;
 use crate::token_shown::show_token;
 use cmd_nodes::{CoordinatorCaller, Destination};
 use std::io::{self, ErrorKind, IsTerminal, Read, Write};
@@ -56,18 +57,12 @@ impl<'a> CoordinatorCaller for SocketCaller<'a> {
 
 /// A connection with a coordinator. A read for which nothing comes within 30 seconds ends with `WouldBlock`, and so does a
 /// write of which nothing is taken.
-#[derive(Drop)]
-pub enum CoordinatorStream {
-    /// Over TCP.
-    Tcp(TcpStream),
-    /// Over a socket file.
-    Unix(UnixStream),
-}
+pub type CoordinatorStream = Socket<TcpStream, UnixStream>;
 
 impl CoordinatorStream {
     /// Connects with a coordinator. Where there is a token, each shows the other that it has it.
     pub fn connect(rt: &HostRuntime, to: Destination<'_>) -> io::Result<CoordinatorStream> {
-        let mut stream = CoordinatorStream::at(rt, Address::of(to.address))?;
+        let mut stream = CoordinatorStream::reached(rt, Address::of(to.address))?;
         if let Some(token) = to.token {
             stream.set_timeout(SHORT_TIMEOUT_SECONDS)?;
             show_token(rt, &mut stream, token)?;
@@ -76,30 +71,25 @@ impl CoordinatorStream {
         Ok(stream)
     }
 
-    fn at(rt: &HostRuntime, address: Address<'_>) -> io::Result<CoordinatorStream> {
+    fn reached(rt: &HostRuntime, address: Address<'_>) -> io::Result<CoordinatorStream> {
         match address {
-            Address::Host(host) => CoordinatorStream::over(TcpStream::connect(rt, host)?),
+            Address::Host(host) => without_delay(TcpStream::connect(rt, host)?),
             Address::Port(port) => {
-                CoordinatorStream::over(TcpStream::connect(rt, (Ipv4Addr::LOCALHOST, port))?)
+                without_delay(TcpStream::connect(rt, (Ipv4Addr::LOCALHOST, port))?)
             }
             Address::NoPort => Err(io::Error::other("a port is 1 to 65535")),
-            Address::File(path) => Ok(CoordinatorStream::Unix(UnixStream::connect(rt, path)?)),
+            Address::File(path) => Ok(Socket::Unix(UnixStream::connect(rt, path)?)),
         }
-    }
-
-    fn over(stream: TcpStream) -> io::Result<CoordinatorStream> {
-        stream.set_nodelay(true)?;
-        Ok(CoordinatorStream::Tcp(stream))
     }
 
     fn set_timeout(&self, seconds: u64) -> io::Result<()> {
         let timeout = Some(Duration::from_secs(seconds));
         match self {
-            CoordinatorStream::Tcp(stream) => {
+            Socket::Tcp(stream) => {
                 stream.set_read_timeout(timeout)?;
                 stream.set_write_timeout(timeout)
             }
-            CoordinatorStream::Unix(stream) => {
+            Socket::Unix(stream) => {
                 stream.set_read_timeout(timeout)?;
                 stream.set_write_timeout(timeout)
             }
@@ -118,32 +108,16 @@ impl CoordinatorStream {
     }
 }
 
+// What is written goes out at once.
+fn without_delay(stream: TcpStream) -> io::Result<CoordinatorStream> {
+    stream.set_nodelay(true)?;
+    Ok(Socket::Tcp(stream))
+}
+
 // Whether nothing has come for a while.
 fn has_waited(fault: &io::Error) -> bool {
     matches!(
         fault.kind(),
         ErrorKind::WouldBlock | ErrorKind::TimedOut | ErrorKind::Interrupted
     )
-}
-
-impl Read for CoordinatorStream {
-    fn read(&mut self, buf: &mut [u8]) -> io::Result<usize> {
-        match self {
-            CoordinatorStream::Tcp(stream) => stream.read(buf),
-            CoordinatorStream::Unix(stream) => stream.read(buf),
-        }
-    }
-}
-
-impl Write for CoordinatorStream {
-    fn write(&mut self, buf: &[u8]) -> io::Result<usize> {
-        match self {
-            CoordinatorStream::Tcp(stream) => stream.write(buf),
-            CoordinatorStream::Unix(stream) => stream.write(buf),
-        }
-    }
-
-    fn flush(&mut self) -> io::Result<()> {
-        Ok(())
-    }
 }

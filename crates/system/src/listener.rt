@@ -2,8 +2,7 @@
 use crate::address::Address;
 use crate::origin::Origin;
 use crate::peer_socket::PeerStream;
-use mio::event::Source;
-use mio::{Interest, Registry, Token};
+use crate::socket::Socket;
 use std::fs;
 use std::io::{self, ErrorKind};
 use std::net::{self, Ipv4Addr, SocketAddr};
@@ -11,11 +10,7 @@ use std::os::unix::fs::FileTypeExt;
 use std::os::unix::net::UnixStream;
 
 // A listener whose `accept` doesn't wait.
-#[derive(Drop)]
-pub(crate) enum Listener {
-    Tcp(mio::net::TcpListener),
-    Unix(mio::net::UnixListener),
-}
+pub(crate) type Listener = Socket<mio::net::TcpListener, mio::net::UnixListener>;
 
 impl Listener {
     // Listens at an address. A socket file that nobody listens at any more is made anew.
@@ -28,36 +23,36 @@ impl Listener {
             Address::NoPort => Err(io::Error::other("a port is 1 to 65535")),
             Address::File(path) => {
                 remove_left_over(rt, path)?;
-                Ok(Listener::Unix(mio::net::UnixListener::bind(rt, path)?))
+                Ok(Socket::Unix(mio::net::UnixListener::bind(rt, path)?))
             }
         }
     }
 
     fn over(listener: net::TcpListener) -> io::Result<Listener> {
         listener.set_nonblocking(true)?;
-        Ok(Listener::Tcp(mio::net::TcpListener::from_std(listener)))
+        Ok(Socket::Tcp(mio::net::TcpListener::from_std(listener)))
     }
 
     // The address and the port at which it listens; an error of a socket file.
     pub fn place(&self) -> io::Result<SocketAddr> {
         match self {
-            Listener::Tcp(listener) => listener.local_addr(),
-            Listener::Unix(_) => Err(io::Error::from(ErrorKind::Unsupported)),
+            Socket::Tcp(listener) => listener.local_addr(),
+            Socket::Unix(_) => Err(io::Error::from(ErrorKind::Unsupported)),
         }
     }
 
     // The connection that has waited longest; `WouldBlock` where none waits.
     pub fn accept(&self) -> io::Result<(PeerStream, Origin)> {
         match self {
-            Listener::Tcp(listener) => {
+            Socket::Tcp(listener) => {
                 let (stream, place) = listener.accept()?;
                 // What is written goes out at once: answers aren't held back until the last is acknowledged.
                 stream.set_nodelay(true)?;
-                Ok((PeerStream::Tcp(stream), Origin::Address(place)))
+                Ok((Socket::Tcp(stream), Origin::Address(place)))
             }
-            Listener::Unix(listener) => {
+            Socket::Unix(listener) => {
                 let (stream, _) = listener.accept()?;
-                Ok((PeerStream::Unix(stream), Origin::SocketFile))
+                Ok((Socket::Unix(stream), Origin::SocketFile))
             }
         }
     }
@@ -80,38 +75,5 @@ fn remove_unheard(rt: &HostRuntime, path: &str) -> io::Result<()> {
         Err(fault) if fault.kind() == ErrorKind::ConnectionRefused => fs::remove_file(rt, path),
         Err(fault) => Err(fault),
         Ok(_) => Err(io::Error::from(ErrorKind::AddrInUse)),
-    }
-}
-
-impl Source for Listener {
-    fn register(
-        &mut self,
-        registry: &Registry,
-        token: Token,
-        interests: Interest,
-    ) -> io::Result<()> {
-        match self {
-            Listener::Tcp(listener) => listener.register(registry, token, interests),
-            Listener::Unix(listener) => listener.register(registry, token, interests),
-        }
-    }
-
-    fn reregister(
-        &mut self,
-        registry: &Registry,
-        token: Token,
-        interests: Interest,
-    ) -> io::Result<()> {
-        match self {
-            Listener::Tcp(listener) => listener.reregister(registry, token, interests),
-            Listener::Unix(listener) => listener.reregister(registry, token, interests),
-        }
-    }
-
-    fn deregister(&mut self, registry: &Registry) -> io::Result<()> {
-        match self {
-            Listener::Tcp(listener) => listener.deregister(registry),
-            Listener::Unix(listener) => listener.deregister(registry),
-        }
     }
 }

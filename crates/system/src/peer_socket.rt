@@ -3,71 +3,11 @@ ghost use Rattle.std.specs.Prelude.{◌≤◌, IfOk, IfSome, length};
 
 use crate::leaving::Leaving;
 use crate::origin::Origin;
-use mio::event::Source;
-use mio::{Interest, Registry, Token};
+use crate::socket::Socket;
 use std::io::{self, ErrorKind, Read, Write};
 
 // A connection that never waits.
-#[derive(Drop)]
-pub(crate) enum PeerStream {
-    Tcp(mio::net::TcpStream),
-    Unix(mio::net::UnixStream),
-}
-
-impl Read for PeerStream {
-    fn read(&mut self, buf: &mut [u8]) -> io::Result<usize> {
-        match self {
-            PeerStream::Tcp(stream) => stream.read(buf),
-            PeerStream::Unix(stream) => stream.read(buf),
-        }
-    }
-}
-
-impl Write for PeerStream {
-    fn write(&mut self, buf: &[u8]) -> io::Result<usize> {
-        match self {
-            PeerStream::Tcp(stream) => stream.write(buf),
-            PeerStream::Unix(stream) => stream.write(buf),
-        }
-    }
-
-    fn flush(&mut self) -> io::Result<()> {
-        Ok(())
-    }
-}
-
-impl Source for PeerStream {
-    fn register(
-        &mut self,
-        registry: &Registry,
-        token: Token,
-        interests: Interest,
-    ) -> io::Result<()> {
-        match self {
-            PeerStream::Tcp(stream) => stream.register(registry, token, interests),
-            PeerStream::Unix(stream) => stream.register(registry, token, interests),
-        }
-    }
-
-    fn reregister(
-        &mut self,
-        registry: &Registry,
-        token: Token,
-        interests: Interest,
-    ) -> io::Result<()> {
-        match self {
-            PeerStream::Tcp(stream) => stream.reregister(registry, token, interests),
-            PeerStream::Unix(stream) => stream.reregister(registry, token, interests),
-        }
-    }
-
-    fn deregister(&mut self, registry: &Registry) -> io::Result<()> {
-        match self {
-            PeerStream::Tcp(stream) => stream.deregister(registry),
-            PeerStream::Unix(stream) => stream.deregister(registry),
-        }
-    }
-}
+pub(crate) type PeerStream = Socket<mio::net::TcpStream, mio::net::UnixStream>;
 
 // A peer's connection, and what is known of it.
 #[derive(Drop)]
@@ -90,6 +30,8 @@ pub(crate) struct PeerSocket {
     pub has_spoken: bool,
     // Whether it was told anything but to come later: it may have been granted a table.
     pub was_served: bool,
+    // How often in this second it was told nothing else.
+    pub put_offs: u32,
 }
 
 impl PeerSocket {
@@ -105,6 +47,7 @@ impl PeerSocket {
             heard: 0,
             has_spoken: false,
             was_served: false,
+            put_offs: 0,
         }
     }
 

@@ -8,11 +8,12 @@ use std::io;
 use std::net::SocketAddr;
 use wire::Fault;
 
-/// The peers that connect at an address, 1,000 at most at once, and so many from one address. None of them is waited for, each
-/// is read in its turn, and nothing is read from one that doesn't take what it is sent. Each second is said once. Where there is
-/// a token, only those are peers that have shown it. One whose first line doesn't come within ten seconds is gone, and so is one
-/// of whom nothing comes for an hour; where all places are taken and others wait, the one that was silent longest, for a minute
-/// at least, makes room.
+/// The peers that connect at an address, 1,000 at most at once, and so many from one address. None of them is waited
+/// for, each is read in its turn, and nothing is read from one that doesn't take what it is sent; one that was told
+/// 64 times in a second to come later, and nothing else, is read again in the next. Each second is said once. Where
+/// there is a token, only those are peers that have shown it. One whose first line doesn't come within ten seconds is
+/// gone, and so is one of whom nothing comes for an hour; where all places are taken and others wait, the one that
+/// was silent longest, for a minute at least, makes room.
 #[derive(Drop)]
 pub struct PeerSockets<'a> {
     listening: Listening<'a>,

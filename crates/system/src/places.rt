@@ -5,6 +5,7 @@ ghost use Rattle.peers.specs.Connections.{FitsIn};
 use crate::herald::Herald;
 use crate::leaving::Leaving;
 use crate::peer_socket::PeerSocket;
+use crate::turns::Turns;
 use mio::event::Event;
 use peers::Arrival;
 use std::alloc::{AllocError as NoMemory, Global};
@@ -42,8 +43,7 @@ pub(crate) struct Places<'a> {
     taken: Vec<usize>,
     // the places of those whose first line may not have come, the oldest first
     young: VecDeque<usize>,
-    // the places from which there may be something to read, in turn
-    ready: VecDeque<usize>,
+    turns: Turns,
     // the places that take bytes again
     roomy: VecDeque<usize>,
     second: u64,
@@ -60,7 +60,7 @@ impl<'a> Places<'a> {
             sockets: Vec::new(alloc),
             taken: Vec::new(alloc),
             young: VecDeque::new(alloc),
-            ready: VecDeque::new(alloc),
+            turns: Turns::new(alloc),
             roomy: VecDeque::new(alloc),
             second: 0,
             waited: None,
@@ -98,12 +98,12 @@ impl<'a> Places<'a> {
 
     // How many are to be read next.
     pub fn ready_count(&self) -> usize {
-        self.ready.len()
+        self.turns.count()
     }
 
     // Whether something may have come.
     pub fn has_ready(&self) -> bool {
-        !self.ready.is_empty() || !self.roomy.is_empty()
+        self.turns.count() > 0 || !self.roomy.is_empty()
     }
 
     // A peer has the next place.
@@ -116,7 +116,7 @@ impl<'a> Places<'a> {
         if !socket.has_spoken {
             self.young.push_back(place)?;
         }
-        make_ready(&mut self.ready, place, &mut socket)?;
+        self.turns.add(place, &mut socket)?;
         self.sockets.push(Some(socket))?;
         if self.taken.push(place).is_err() {
             let _ = self.sockets.pop();
@@ -135,13 +135,19 @@ impl<'a> Places<'a> {
             socket.is_full = false;
             self.roomy.push_back(place)?;
         }
-        make_ready(&mut self.ready, place, socket)
+        self.turns.add(place, socket)
     }
 
-    // Another second begins: those leave that have said nothing for too long.
+    // Another second begins: those leave that have said nothing for too long, and each is read again.
     pub fn begin_second(&mut self, second: u64) -> Result<(), NoMemory> {
         self.second = second;
         self.herald.begin_second();
+        self.turns.begin_second()?;
+        for place in self.taken.iter() {
+            if let Some(Some(socket)) = self.sockets.get_mut(*place) {
+                socket.put_offs = 0;
+            }
+        }
         self.end_mute()?;
         self.end_idle()?;
         if second % LOOK_SECONDS == 0 {
@@ -245,7 +251,7 @@ impl<'a> Places<'a> {
         if socket.leaving.is_none() {
             socket.leaving = Some(why);
         }
-        make_ready(&mut self.ready, place, socket)
+        self.turns.add(place, socket)
     }
 
     // A peer that takes bytes again. It is read again too.
@@ -261,7 +267,7 @@ impl<'a> Places<'a> {
         ensures { IfOk result (λ arrival. IfSome arrival (FitsIn (length buf.new))) }
     {
         for _ in 0..u64::MAX {
-            let Some(place) = self.ready.pop_front() else {
+            let Some(place) = self.turns.next() else {
                 break;
             };
             if let Some(arrival) = self.read(place, buf)? {
@@ -290,7 +296,7 @@ impl<'a> Places<'a> {
             Ok(Some(count)) => {
                 // There may be more where the buffer is full; elsewhere the system says so once there is.
                 if count == buf.len() || !socket.first.is_empty() {
-                    make_ready(&mut self.ready, place, socket)?;
+                    self.turns.add(place, socket)?;
                 }
                 Ok(Some(Arrival::Came { place, count }))
             }
@@ -329,28 +335,26 @@ impl<'a> Places<'a> {
         if bytes.ends_with(COME_LATER) {
             self.waited = Some(self.second);
         }
-        socket.was_served |= !bytes.starts_with(COME_LATER);
+        if puts_off(bytes) {
+            socket.put_offs = socket.put_offs.saturating_add(1);
+        } else {
+            socket.was_served = true;
+        }
         match socket.write_all_now(bytes) {
             Ok(count) => count,
             Err(_) => {
                 socket.leaving = Some(Leaving::Failed);
                 // Where memory is refused, the system says soon that the socket has failed.
-                let _ = make_ready(&mut self.ready, place, socket);
+                let _ = self.turns.add(place, socket);
                 0
             }
         }
     }
 }
 
-// A socket is read in its turn, once.
-fn make_ready(
-    ready: &mut VecDeque<usize>,
-    place: usize,
-    socket: &mut PeerSocket,
-) -> Result<(), NoMemory> {
-    if !socket.is_ready {
-        ready.push_back(place)?;
-        socket.is_ready = true;
-    }
-    Ok(())
+// Whether a peer is told to come later, and nothing else.
+fn puts_off(answers: &[u8]) -> bool {
+    answers
+        .split(|byte| *byte == b'\n')
+        .all(|line| line.is_empty() || line == b"LATER".as_slice())
 }

@@ -109,7 +109,7 @@ class Callers(Nobody):
             self.peers.append(socket.create_connection(("127.0.0.1", self.port)))
             self.sent.append(b"")
             self.ports[self.peers[-1].getsockname()[1]] = len(self.peers) - 1
-            self.unshown = [len(self.peers) - 1] if self.token else []
+            self.unshown = [(len(self.peers) - 1, what.encode() or self.token)] if self.token else []
             return "g"
         if who == "@":
             return f"t{what}"
@@ -126,13 +126,15 @@ class Callers(Nobody):
         return "g"
 
     def show_token(self):
-        """Answers the greeting of the coordinator; nothing where there is none to answer."""
+        """Answers the greeting of the coordinator; nothing where there is none to answer. Waiting fails where it asks for no token."""
         if not self.unshown:
             return None
-        place = self.unshown.pop()
+        place, token = self.unshown.pop()
+        if not self.sent[place]:
+            return "f"
         _, version, theirs = self.sent[place].decode().split()
         ours = "5" * 64
-        proof = hmac.new(self.token, f"worker {theirs} {ours}".encode(), hashlib.sha256).hexdigest()
+        proof = hmac.new(token, f"worker {theirs} {ours}".encode(), hashlib.sha256).hexdigest()
         self.peers[place].sendall(f"bb {version} {ours} {proof}\n".encode())
         return "g"
 

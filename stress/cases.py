@@ -51,9 +51,9 @@ What a line of a case is, its first word says:
       no text                   the words of the command line are no UTF-8
 
 An address is a name whose script stands as a file of the case; the program is given a port of this computer. At one that is
-listened at each line says what comes: `+` a worker connects, at the next place from 0 on; `0 < ASK 7` that at place 0 sends a
-line, `0 . AS` a piece of one; `0 -` it is gone; `0 !` it takes bytes again; `@ 61` it is second 61; behind the last line
-waiting fails. Of one that is called the file is what the coordinator says over the connection, PATH.2 what it says over the
+listened at each line says what comes: `+` a worker connects, at the next place from 0 on, and shows the token where there is one, or
+the one that `+ TOKEN` names; `0 < ASK 7` that at place 0 sends a line, `0 . AS` a piece of one; `0 -` it is gone; `0 !` it takes bytes
+again; `@ 61` it is second 61; behind the last line waiting fails. Of one that is called the file is what the coordinator says over the connection, PATH.2 what it says over the
 second one, and so on; behind the last the call is refused. An address without a file is one that nobody may listen at.
 
 Of the rows of crates/cases, which plays them without words, words on standard error aren't compared.

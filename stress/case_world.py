@@ -126,10 +126,12 @@ class Callers(Nobody):
         return "g"
 
     def show_token(self):
-        """Answers the greeting of the coordinator; nothing where there is none to answer."""
+        """Answers the greeting of the coordinator; nothing where there is none to answer. Waiting fails where it asks for no token."""
         if not self.unshown:
             return None
         place, token = self.unshown.pop()
+        if not self.sent[place]:
+            return "f"
         _, version, theirs = self.sent[place].decode().split()
         ours = "5" * 64
         proof = hmac.new(token, f"worker {theirs} {ours}".encode(), hashlib.sha256).hexdigest()

@@ -14,7 +14,7 @@ pub(crate) type Listener = Socket<mio::net::TcpListener, mio::net::UnixListener>
 
 impl Listener {
     // Listens at an address. A socket file that nobody listens at any more is made anew.
-    pub fn at(rt: &HostRuntime, address: Address<'_>) -> io::Result<Listener> {
+    pub(crate) fn at(rt: &HostRuntime, address: Address<'_>) -> io::Result<Listener> {
         match address {
             Address::Host(host) => Listener::over(net::TcpListener::bind(rt, host)?),
             Address::Port(port) => {
@@ -34,7 +34,7 @@ impl Listener {
     }
 
     // The address and the port at which it listens; an error of a socket file.
-    pub fn place(&self) -> io::Result<SocketAddr> {
+    pub(crate) fn place(&self) -> io::Result<SocketAddr> {
         match self {
             Socket::Tcp(listener) => listener.local_addr(),
             Socket::Unix(_) => Err(io::Error::from(ErrorKind::Unsupported)),
@@ -42,7 +42,7 @@ impl Listener {
     }
 
     // The connection that has waited longest; `WouldBlock` where none waits.
-    pub fn accept(&self) -> io::Result<(PeerStream, Origin)> {
+    pub(crate) fn accept(&self) -> io::Result<(PeerStream, Origin)> {
         match self {
             Socket::Tcp(listener) => {
                 let (stream, place) = listener.accept()?;

@@ -1,12 +1,13 @@
 -- What came was listened to, one thing after another.
-use Rattle.std.proofs.Common.{◌∙◌, ap, inr, ℕ, [], ◌++◌, List, Option, None}
+use Rattle.std.proofs.Common.{◌≡◌, ◌∙◌, refl, ap, inr, ℕ, [], ◌∷◌, ◌++◌, List, Option, None}
 use Rattle.std.specs.Prelude.{Result, Ok, Err, OnErr}
 use Rattle.wire.specs.Fulfilled.{Answering}
 use Rattle.peers.specs.Connections.{Incoming, Taking, TakesAsBefore, noted}
 use Rattle.peers.specs.declared.conduct.Conduct.{Conduct}
 use Rattle.peers.specs.Guarded.{unheard}
-use Rattle.peers.specs.Served.{Served, all_came, noted_if, served}
-use Rattle.peers.proofs.Arrivals.{noted_none, serves_none}
+use Rattle.peers.specs.Sent.{ServesOne}
+use Rattle.peers.specs.Served.{Exchange, Served, all_came, noted_if, served}
+use Rattle.peers.proofs.Arrivals.{noted_none, serves_none, serves_one}
 use Rattle.peers.proofs.Following.{noted_on, serves_on}
 use Rattle.lease_core.specs.CoordinatorRules.{Coordinating, On}
 use Rattle.cmd_nodes.specs.Listened.{HasListened, Listens, ListensFrom, ListensUntil, Traffic}
@@ -14,7 +15,25 @@ use Rattle.cmd_nodes.specs.Listened.{HasListened, Listens, ListensFrom, ListensU
 module _ {N : Type 0} (answers : Answering N) where
   -- nothing has come yet
   pub listens_none : (takes : Taking) (old : Served N) (before : Traffic) → Listens answers takes old old None before before
-  listens_none takes old before = record { exchanges = []; serves = serves_none answers takes old before.sent; came = noted_none before.arrived }
+  listens_none takes old before = record { exchanges = []; serves = serves_none answers takes old before.sent before.sent (λ place. refl); came = noted_none before.arrived }
+
+  -- this comes next
+  pub listens_one : (takes : Taking) (old new : Served N) (exchange : Exchange) (before after : Traffic) → after.arrived ≡ noted before.arrived (exchange.came ∷ [])
+      → ServesOne answers takes old exchange new before.sent after.sent → Listens answers takes old new None before after
+  listens_one takes old new exchange before after came one = record {
+    exchanges = exchange ∷ [];
+    serves = serves_one answers takes old exchange new before.sent after.sent one;
+    came = came;
+  }
+
+  -- or it brings a fault
+  pub listens_fault : (takes : Taking) (old : Served N) (came : Option Incoming) (before after : Traffic) → after.arrived ≡ noted_if before.arrived came
+      → ((place : ℕ) → after.sent place ≡ before.sent place) → ListensFrom answers takes old before after
+  listens_fault takes old came before after comes unsent = (old, came, record {
+    exchanges = [];
+    serves = serves_none answers takes old before.sent after.sent unsent;
+    came = comes ∙ ap (λ (a : Option (List Incoming)). noted_if a came) (noted_none before.arrived);
+  })
 
   -- what comes behind it
   pub listens_on : (takes takes' : Taking) (old at new : Served N) (last : Option Incoming) (before then after : Traffic) → Listens answers takes old at None before then

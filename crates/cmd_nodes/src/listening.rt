@@ -213,7 +213,7 @@ fn serve_once<L: LedgerOut, K: Connections>(
         (traffic (K.arrived connections.new) (K.sent connections.new))) }
     ensures takes { TakesAsBefore (K.takes connections.old) (K.takes connections.new) }
 {
-    match serve(connections, piece, peers, node, ledger, 1) {
+    match serve(connections, piece, peers, node, ledger) {
         Ok(()) => Ok(()),
         Err(fault) => Err(by_turn(fault)),
     }

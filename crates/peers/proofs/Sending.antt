@@ -5,14 +5,12 @@ use Rattle.std.proofs.Math.ListN.{get_or-append}
 use Rattle.std.proofs.Math.Seq.{drop-nil, take-nil}
 use Rattle.std.proofs.lemmas.Bool.{cases_eq, cases_lt, ne_eqb, eq-eqb}
 use Rattle.std.proofs.lemmas.List.{take-append-drop, length-set, get_or-set_same, get_or-set_other, set_past, get_or_past}
-use Rattle.std.proofs.lemmas.List.Concat.{flat_map-append}
 use Rattle.wire.specs.Device.{grown}
 use Rattle.wire.specs.Fulfilled.{Answering, Reply}
 use Rattle.peers.specs.Connections.{Incoming, Taking, Opened, Came, Gone, Passed, Room}
 use Rattle.peers.specs.Peers.{PeerState, at_first, peer_at, due_at, drained_at}
 use Rattle.peers.specs.Served.{Served, Exchange, AnswersWhereThere, TakesArrival, asker, served}
-use Rattle.peers.specs.Sent.{Sends, IsSent, IsGone, answers_to, replies_to, answer_frames}
-use Rattle.peers.specs.inside.{SendsTo, ServesOne}
+use Rattle.peers.specs.Sent.{Sends, SendsTo, ServesOne, IsSent, IsGone, answers_to, replies_to, answer_frames}
 
 -- bytes after bytes
 pub grown_twice : (sent : Option (List ℕ)) (xs ys : List ℕ) → grown (grown sent xs) ys ≡ grown sent (xs ++ ys)
@@ -23,13 +21,9 @@ pub grown_none : (sent : Option (List ℕ)) → grown sent [] ≡ sent
 grown_none (Some sent) = ap Some (append-nil sent)
 grown_none None = refl
 
--- the frames to a place with those of one more exchange
-frames_more : (place : ℕ) (exchanges : List Exchange) (next : Exchange)
-    → answer_frames (replies_to place (exchanges ++ (next ∷ []))) ≡ answer_frames (replies_to place exchanges) ++ answer_frames (answers_to place next.came next.replies)
-frames_more place exchanges next =
-    ap answer_frames (flat_map-append (λ (e : Exchange). answers_to place e.came e.replies) exchanges (next ∷ []))
-    ∙ flat_map-append (λ (reply : Reply). reply.out.frames.items) (replies_to place exchanges) (answers_to place next.came next.replies ++ [])
-    ∙ ap (λ (replies : List Reply). answer_frames (replies_to place exchanges) ++ answer_frames replies) (append-nil (answers_to place next.came next.replies))
+-- the frames to a place of one exchange
+frames_one : (place : ℕ) (next : Exchange) → answer_frames (replies_to place (next ∷ [])) ≡ answer_frames (answers_to place next.came next.replies)
+frames_one place next = ap answer_frames (append-nil (answers_to place next.came next.replies))
 
 -- what an arrival does to what waits for the peer at a place: these frames are added to it, or the peer leaves
 pub data Becomes (old new : List (Option PeerState)) (place : ℕ) (frames : List ℕ) : Type 0 where
@@ -108,28 +102,21 @@ becomes answers old (Passed moment) replies handed new place (none, ticks) =
 becomes {N} answers old (Room from) replies handed new place (none, unhanded, e) =
     stays old.peers new.peers place (ap (λ (s : Served N). length s.peers) e) (ap (λ (s : Served N). peer_at s.peers place) e)
 
--- the answers to what came go to what is left for the peer
-taken_more : (place : ℕ) (exchanges : List Exchange) (next : Exchange) (old at new : List (Option PeerState)) (sent sent' : Option (List ℕ))
-    → IsSent place exchanges old at sent sent' → Becomes at new place (answer_frames (answers_to place next.came next.replies))
-    → IsSent place (exchanges ++ (next ∷ [])) old new sent sent'
-taken_more place exchanges next old at new sent sent' before becomes =
-    let frames = answer_frames (answers_to place next.came next.replies) in
-    let waited = due_at (peer_at old place) in
-    record {
-      done = before.done;
-      left = before.left ++ frames;
-      all = ap (λ (f : List ℕ). waited ++ f) (frames_more place exchanges next)
-          ∙ sym (append_assoc waited (answer_frames (replies_to place exchanges)) frames) ∙ ap (λ (f : List ℕ). f ++ frames) before.all
-          ∙ append_assoc before.done before.left frames;
-      sent = before.sent;
-      waits = left_after becomes before.waits;
-    }
+-- the answers to what came go to what waits for the peer
+taken_one : (place : ℕ) (next : Exchange) (old new : List (Option PeerState)) (sent : Option (List ℕ))
+    → Becomes old new place (answer_frames (answers_to place next.came next.replies)) → IsSent place (next ∷ []) old new sent sent
+taken_one place next old new sent becomes = record {
+  done = [];
+  left = due_at (peer_at old place) ++ answer_frames (answers_to place next.came next.replies);
+  all = ap (λ (f : List ℕ). due_at (peer_at old place) ++ f) (frames_one place next);
+  sent = sym (grown_none sent);
+  waits = left_after becomes;
+}
   where
-    left_after : Becomes at new place (answer_frames (answers_to place next.came next.replies)) → (before.left ≡ due_at (peer_at at place)) ⊎ IsGone at place
-        → (before.left ++ answer_frames (answers_to place next.came next.replies) ≡ due_at (peer_at new place)) ⊎ IsGone new place
-    left_after (Adds adds still) (inl e) = inl (ap (λ (d : List ℕ). d ++ answer_frames (answers_to place next.came next.replies)) e ∙ sym adds)
-    left_after (Adds adds still) (inr gone) = inr (still gone)
-    left_after (Leaves none gone) _ = inr gone
+    left_after : Becomes old new place (answer_frames (answers_to place next.came next.replies))
+        → (due_at (peer_at old place) ++ answer_frames (answers_to place next.came next.replies) ≡ due_at (peer_at new place)) ⊎ IsGone new place
+    left_after (Adds adds still) = inl (sym adds)
+    left_after (Leaves none gone) = inr gone
 
 -- what is written to a peer waits no more
 due_drained : (peer : Option PeerState) (count : ℕ) → due_at (drained_at count peer) ≡ drop count (due_at peer)
@@ -221,13 +208,10 @@ sent_none place peers sent = record {
   waits = inl refl;
 }
 
--- one more exchange
-pub sent_more : {N : Type 0} (answers : Answering N) (takes : Taking) (place : ℕ) (exchanges : List Exchange) (next : Exchange) (old : List (Option PeerState))
-    (at new : Served N) (sent sent' sent'' : ℕ → Option (List ℕ))
-    → IsSent place exchanges old at.peers (sent place) (sent' place) → ServesOne answers takes at next new sent' sent''
-    → IsSent place (exchanges ++ (next ∷ [])) old new.peers (sent place) (sent'' place)
-sent_more answers takes place exchanges next old at new sent sent' sent'' before one =
-    sent_to takes (asker next.came) place (exchanges ++ (next ∷ [])) old one.peers new.peers sent sent' sent''
-    (taken_more place exchanges next old at.peers one.peers (sent place) (sent' place) before
-    (becomes answers at next.came next.replies next.handed (served new.node new.text one.peers) place one.arrives))
+-- one exchange
+pub sent_one : {N : Type 0} (answers : Answering N) (takes : Taking) (place : ℕ) (next : Exchange) (old new : Served N) (sent sent' : ℕ → Option (List ℕ))
+    → ServesOne answers takes old next new sent sent' → IsSent place (next ∷ []) old.peers new.peers (sent place) (sent' place)
+sent_one answers takes place next old new sent sent' one =
+    sent_to takes (asker next.came) place (next ∷ []) old.peers one.peers new.peers sent sent sent'
+    (taken_one place next old.peers one.peers (sent place) (becomes answers old next.came next.replies next.handed (served new.node new.text one.peers) place one.arrives))
     one.sends

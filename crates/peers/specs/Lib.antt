@@ -10,7 +10,6 @@ pub mod Peers
 pub mod Slot
 pub mod Served
 pub mod Sent
-pub mod inside
 pub mod Heard
 pub mod Frames
 pub mod Due

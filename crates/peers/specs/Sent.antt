@@ -1,12 +1,11 @@
 -- What is sent to whom.
-use Rattle.std.specs.Prelude.{◌≡◌, ◌⊎◌, ◌<◌, ℕ, List, [], ◌++◌, Option, None, if◌then◌else◌, length, take, set, nat_eq}
+use Rattle.std.specs.Prelude.{◌≡◌, ◌≢◌, ◌⊎◌, ◌<◌, ℕ, List, [], ◌++◌, Option, Some, None, if◌then◌else◌, length, take, set, nat_eq}
 use Rattle.std.specs.List.{flat_map}
-use Rattle.wire.specs.declared.turned.TurnFault.{TurnFault}
 use Rattle.wire.specs.Device.{grown}
 use Rattle.wire.specs.Fulfilled.{Answering, Reply}
-use Rattle.peers.specs.Connections.{Incoming, Taking, Opened, Came, Gone, Passed, Room, noted}
+use Rattle.peers.specs.Connections.{Incoming, Taking, Opened, Came, Gone, Passed, Room}
 use Rattle.peers.specs.Peers.{PeerState, peer_at, due_at, drained_at}
-use Rattle.peers.specs.Served.{Served, Exchange, Rounds, Fails, all_came, noted_if}
+use Rattle.peers.specs.Served.{Served, Exchange, Rounds, TakesArrival, asker, served}
 
 -- as much of what waits for the peer at a place as it takes was sent to it, from the front, and waits no more
 abbrev pub Sends : Taking → ℕ → List (Option PeerState) → List (Option PeerState) → Option (List ℕ) → Option (List ℕ)
@@ -15,6 +14,20 @@ Sends takes place old new sent sent' =
     (count : ℕ) × takes place (due_at (peer_at old place)) count
     × (new ≡ set old place (drained_at count (peer_at old place)))
     × (sent' ≡ grown sent (take count (due_at (peer_at old place))))
+
+-- the peer that asked is sent as much of what waits for it as it takes, and nobody else anything
+abbrev pub SendsTo : Taking → Option ℕ → List (Option PeerState) → List (Option PeerState) → (ℕ → Option (List ℕ))
+    → (ℕ → Option (List ℕ)) → Type 0
+SendsTo takes None old new sent sent' = (new ≡ old) × ((place : ℕ) → sent' place ≡ sent place)
+SendsTo takes (Some place) old new sent sent' =
+    Sends takes place old new (sent place) (sent' place) × ((other : ℕ) → other ≢ place → sent' other ≡ sent other)
+
+-- what comes is taken, and then the peer that asked is sent as much of what waits for it as it takes
+pub record ServesOne {N : Type 0} (answers : Answering N) (takes : Taking) (old : Served N) (exchange : Exchange)
+    (new : Served N) (sent sent' : ℕ → Option (List ℕ)) : Type 0 where
+  pub peers : List (Option PeerState)
+  pub arrives : TakesArrival answers old exchange.came exchange.replies exchange.handed (served new.node new.text peers)
+  pub sends : SendsTo takes (asker exchange.came) peers new.peers sent sent'
 
 -- the answers to what came from the peer at a place
 abbrev pub answers_to : ℕ → Incoming → List Reply → List Reply
@@ -50,14 +63,3 @@ pub record Serves {N : Type 0} (answers : Answering N) (takes : Taking) (old : S
     (new : Served N) (before after : ℕ → Option (List ℕ)) : Type 0 where
   pub rounds : Rounds answers takes old exchanges new
   pub sent : (place : ℕ) → IsSent place exchanges old.peers new.peers (before place) (after place)
-
--- what came was served as far as what brought a fault; of the answers to that nothing was sent
-pub record BreaksOff {N : Type 0} (answers : Answering N) (is_stopped : N → Type 0) (takes : Taking) (old : Served N)
-    (fault : TurnFault) (new : Served N) (sent sent' : ℕ → Option (List ℕ))
-    (arrived arrived' : Option (List Incoming)) : Type 0 where
-  pub exchanges : List Exchange
-  pub at : Served N
-  pub last : Option Incoming
-  pub before : Serves answers takes old exchanges at sent sent'
-  pub fails : Fails answers is_stopped at last fault new
-  pub came : arrived' ≡ noted_if (noted arrived (all_came exchanges)) last

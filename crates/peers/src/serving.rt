@@ -6,9 +6,8 @@ ghost use Rattle.wire.specs.Turned.{EndsInStep, devices};
 ghost use Rattle.wire.specs.declared.node.Out.{Out as Answer};
 ghost use Rattle.wire.specs.declared.turned.TurnFault.TheVariants.{LinkFault as Unlinked};
 ghost use Rattle.peers.specs.Connections.{Incoming, TakesAsBefore, noted};
-ghost use Rattle.peers.specs.Served.{CountsFailure, Exchange, Fails, TakesArrival, all_came, asker, let_go, let_go_by, noted_if, served};
-ghost use Rattle.peers.specs.inside.{SendsTo, ServesOne};
-ghost use Rattle.peers.specs.Sent.{BreaksOff, Sends, Serves};
+ghost use Rattle.peers.specs.Served.{CountsFailure, Exchange, Fails, TakesArrival, asker, let_go, let_go_by, noted_if, served};
+ghost use Rattle.peers.specs.Sent.{Sends, SendsTo, ServesOne};
 
 use crate::alone::hand_alone;
 use crate::arrival::Arrival;
@@ -128,40 +127,9 @@ pub fn flush<C: Connections>(connections: &mut C, peers: &mut Peers, place: usiz
     peers.wrote(place, count);
 }
 
-/// Takes so many arrivals, one after another, and after each sends the peer that asked as much of its answers as it
-/// takes. What a node would send as time passes is sent to nobody.
-///
-/// After a fault, as of `take_arrival`, each arrival but the last was served, and of the answers to the last nothing was
-/// sent.
+/// Takes what comes next, as `take_arrival`, and sends the peer that asked as much of its answers as it takes. What a node
+/// would send as time passes is sent to nobody, and after a fault nothing is sent.
 pub fn serve<C: Connections, N: Node, W: LedgerOut>(
-    connections: &mut C,
-    buf: &mut [u8],
-    peers: &mut Peers,
-    node: &mut Guarded<N>,
-    ledger: &mut W,
-    turns: u64,
-) -> Result<(), TurnFault>
-    ensures ok { OnOk result ((exchanges : List Exchange) × (length exchanges ≡ turns)
-        × (C.arrived connections.new ≡ noted (C.arrived connections.old) (all_came exchanges))
-        × Serves N.answers (C.takes connections.old) (served node.old (W.text ledger.old) peers.old) exchanges
-        (served node.new (W.text ledger.new) peers.new) (C.sent connections.old) (C.sent connections.new)) }
-    ensures err { IfErr result (λ fault. BreaksOff N.answers N.is_stopped (C.takes connections.old)
-        (served node.old (W.text ledger.old) peers.old) fault (served node.new (W.text ledger.new) peers.new)
-        (C.sent connections.old) (C.sent connections.new) (C.arrived connections.old) (C.arrived connections.new)) }
-    ensures takes { TakesAsBefore (C.takes connections.old) (C.takes connections.new) }
-    ensures step { result ≢ Err TurnFault.LedgerFault → IfSome (W.text ledger.old) (N.in_step node.old.node)
-        → IfSome (W.text ledger.new) (N.in_step node.new.node) }
-{
-    let mut left = turns;
-    'turns: while left > 0 {
-        serve_next(connections, buf, peers, node, ledger)?;
-        left -= 1;
-    }
-    Ok(())
-}
-
-// Takes one arrival, and sends the peer that asked what it takes.
-fn serve_next<C: Connections, N: Node, W: LedgerOut>(
     connections: &mut C,
     buf: &mut [u8],
     peers: &mut Peers,

@@ -8,7 +8,7 @@ use Rattle.kind_evidence.specs.Kind.{IsLetter, room_for_fields}
 use Rattle.kind_evidence.proofs.Letters.{is_letter}
 use Rattle.kind_evidence.proofs.Room.{have_room}
 use Rattle.run.specs.Fields.{halts_by, halts_fields}
-use Rattle.run.specs.Reach.{letter_of}
+use Rattle.run.specs.Reach.{reach_letter}
 use Rattle.run.specs.declared.reach.Reach.{Reach}
 use Rattle.run.specs.declared.reach.Reach.TheVariants.{Early, Late}
 use Rattle.run.proofs.FieldLaws.{halts_back, halts_are_fields}
@@ -17,7 +17,7 @@ use Rattle.cert.specs.Grammar.{claim_by, kind_text, claim_fields}
 use Rattle.cert.specs.Reason.{with_kind}
 use Rattle.cert.proofs.Reasons.{kind_laws, reason_back}
 
-halting_letter : (r : Reach) → IsLetter (letter_of r)
+halting_letter : (r : Reach) → IsLetter (reach_letter r)
 halting_letter Early = is_letter 72 (omega arith)
 halting_letter Late = is_letter 76 (omega arith)
 
@@ -37,7 +37,7 @@ have_room_in (HaltsClaim e) n few small made = have_room (halts_fields e) n few 
 have_room_in (NeverClaim r) n few writable made = (kind_laws r).short (with_kind r).claimed n few writable made
 have_room_in NoClaim n few small made = omega (arith, few)
 
-halting_by : (r : Reach) (n : ℕ) (fields : List (List ℕ)) → claim_by n (letter_of r) fields ≡ made_of HaltsClaim (halts_by r fields)
+halting_by : (r : Reach) (n : ℕ) (fields : List (List ℕ)) → claim_by n (reach_letter r) fields ≡ made_of HaltsClaim (halts_by r fields)
 halting_by Early n fields = refl
 halting_by Late n fields = refl
 

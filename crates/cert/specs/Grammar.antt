@@ -10,7 +10,7 @@ use Rattle.text.specs.Parts.{parts_of}
 use Rattle.text.specs.declared.fields.FieldFault.{FieldFault}
 use Rattle.text.specs.declared.fields.FieldFault.TheVariants.{BadKind as NoKind}
 use Rattle.run.specs.Fields.{halts_by, halts_fields}
-use Rattle.run.specs.Reach.{letter_of}
+use Rattle.run.specs.Reach.{reach_letter}
 use Rattle.run.specs.declared.reach.Reach.TheVariants.{Early, Late}
 use Rattle.cert.specs.Limits.{record_byte_limit}
 use Rattle.cert.specs.declared.record_fault.RecordFault.{RecordFault}
@@ -55,7 +55,7 @@ record_of text = if nat_lt record_byte_limit (length text) then Err TooLong else
 
 -- the kind of a claim as it is written
 abbrev pub kind_text : Claim → List ℕ
-kind_text (HaltsClaim e) = letter_of e.reach
+kind_text (HaltsClaim e) = reach_letter e.reach
 kind_text (NeverClaim r) = reason_letter r
 kind_text NoClaim = codes "U"
 

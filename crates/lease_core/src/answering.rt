@@ -5,7 +5,7 @@ ghost use Rattle.wire.specs.Grammar.{message_of};
 ghost use Rattle.wire.specs.Happening.{seen};
 ghost use Rattle.wire.specs.Message.{Ask};
 ghost use Rattle.lease_core.specs.CoordinatorRules.{Gives};
-ghost use Rattle.lease_core.specs.inside.Answering.{GivesFrame, GivesMessage, GivesRecord, GivesOffer, GivesDone};
+ghost use Rattle.lease_core.specs.inside.Answering.{GivesFrame, GivesMessage, GivesJudged, GivesOffer, GivesDone};
 
 use crate::frames::{GRANT_BYTES, ack_frame, later_frame, put_reply};
 use crate::known::{is_beyond_peers, is_known};
@@ -74,7 +74,7 @@ fn answer_ask(alloc: Global, era: u64, held: &mut LeasedBoard, id: u32) -> Resul
 // In the order in which a board judges a record. Of a table of another size nothing is written, and of a record
 // that brings nothing new only that it is held. A peer can't have a run of minutes made here.
 fn answer_record(alloc: Global, held: &mut LeasedBoard, r: &Record<'_>) -> Result<Out, NodeFault>
-    ensures { GivesRecord held.old (recorded r.now) result held.new }
+    ensures { GivesJudged held.old (recorded r.now) result held.new }
 {
     if r.table.states() != held.board().root().states() {
         let out = refused(alloc, OfferFault::WrongSize.number())?;

@@ -21,20 +21,20 @@ use Rattle.tape.specs.Word.{bit_symbol}
 use Rattle.tape.specs.declared.window.Window.{Window}
 use Rattle.tape.proofs.Cells.{cell_same, same_ones, same_tape}
 use Rattle.run.specs.Limits.{run_step_limit, window_step_limit}
-use Rattle.run.specs.Passages.{LeadsTo, Leads, Passes, beyond}
+use Rattle.run.specs.Passages.{LeavesCells, LeavesSo, TellsPassage, beyond}
 use Rattle.run.specs.RunState.{RunState, OnRun}
 use Rattle.run.specs.declared.passage.Passage.{Passage}
 use Rattle.run.proofs.Standings.{step_is}
 
 -- no step
-pub leads_none : (m : Machine) (state : ℕ) (w : Window) → Leads m state w 0 state w.cells (pos w.at)
+pub leads_none : (m : Machine) (state : ℕ) (w : Window) → LeavesSo m state w 0 state w.cells (pos w.at)
 leads_none m state w x t head holds =
     record { tape = t; is = from_zero m _; head = head; holds = holds; others = λ y apart. refl }
 
 -- a step more, on the cell so numbered
-pub leads_more : (m : Machine) (state : ℕ) (w : Window) (steps last cells at : ℕ) (e : Entry) (now : ℕ) → Leads m state w steps last cells (pos at) → at < 16
+pub leads_more : (m : Machine) (state : ℕ) (w : Window) (steps last cells at : ℕ) (e : Entry) (now : ℕ) → LeavesSo m state w steps last cells (pos at) → at < 16
     → m last (bit_symbol (bit_at cells at)) ≡ Some e → bit_symbol (bit_at now at) ≡ e.write → ((i : ℕ) → i < 16 → i ≢ at → bit_at now i ≡ bit_at cells i)
-    → Leads m state w (steps + 1) e.next.0 now (moved_head (pos at) e.dir)
+    → LeavesSo m state w (steps + 1) e.next.0 now (moved_head (pos at) e.dir)
 leads_more m state w steps last cells at e now leads inside entry here others x t head holds =
     record {
       tape = moved (written u e.write) e.dir;
@@ -46,7 +46,7 @@ leads_more m state w steps last cells at e now leads inside entry here others x 
       others = λ y apart. cell_other u.ones u.head e.write y (λ same. apart at inside (same ∙ l.head)) ∙ l.others y apart;
     }
   where
-    l : LeadsTo m x t state steps last cells (pos at)
+    l : LeavesCells m x t state steps last cells (pos at)
     l = leads x t head holds
 
     u : Tape
@@ -71,7 +71,7 @@ by_window x y on off =
     ])
 
 -- a run goes through a window as its passage says
-pub stands_crossed : (r : RunState) (w : Window) (p : Passage) (t : Tape) → OnRun r → HoldsCells r.config.tape.ones (r.config.tape.head -ℤ pos w.at) w.cells → Passes (entry_of r.table) r.config.state w p
+pub stands_crossed : (r : RunState) (w : Window) (p : Passage) (t : Tape) → OnRun r → HoldsCells r.config.tape.ones (r.config.tape.head -ℤ pos w.at) w.cells → TellsPassage (entry_of r.table) r.config.state w p
     → Crosses w.at p.cells p.side r.config.tape t → r.steps + p.steps ≤ run_step_limit → OnRun (record { table = r.table; steps = r.steps + p.steps; config = record { state = p.state.0; tape = t } })
 stands_crossed r w p t stands holds passes crosses limit = record {
   is_table = stands.is_table;
@@ -83,7 +83,7 @@ stands_crossed r w p t stands holds passes crosses limit = record {
     x : ℤ
     x = r.config.tape.head -ℤ pos w.at
 
-    l : LeadsTo (entry_of r.table) x r.config.tape r.config.state p.steps p.state.0 p.cells (beyond p.side)
+    l : LeavesCells (entry_of r.table) x r.config.tape r.config.state p.steps p.state.0 p.cells (beyond p.side)
     l = passes.leads x r.config.tape (omega (arith, ints)) holds
 
     from_left : (d : Dir) → x +ℤ beyond d ≡ place_beyond d x

@@ -13,7 +13,8 @@ use Rattle.run.specs.declared.reach.Reach.TheVariants.{Early, Late}
 -- a number of steps, where it is one of that reach
 abbrev pub with_steps : Reach → ℕ → Option ℕ → Result HaltsIn FieldFault
 with_steps Early k s = Ok (record { steps = k; ones = s; reach = Early })
-with_steps Late k s = if nat_lt halt_step_limit k then Ok (record { steps = k; ones = s; reach = Late }) else Err BadNumber
+with_steps Late k s =
+    if nat_lt halt_step_limit k then Ok (record { steps = k; ones = s; reach = Late }) else Err BadNumber
 
 -- a number of steps, and a number of ones where it is given
 abbrev pub halts_by : Reach → List (List ℕ) → Result HaltsIn FieldFault

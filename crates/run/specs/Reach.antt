@@ -14,6 +14,6 @@ abbrev pub IsWithinReach : Reach → ℕ → Type 0
 IsWithinReach Early k = k ≤ halt_step_limit
 IsWithinReach Late k = (halt_step_limit < k) × (k ≤ late_step_limit)
 
-abbrev pub letter_of : Reach → List ℕ
-letter_of Early = codes "H"
-letter_of Late = codes "L"
+abbrev pub reach_letter : Reach → List ℕ
+reach_letter Early = codes "H"
+reach_letter Late = codes "L"

@@ -49,7 +49,7 @@ impl HaltsIn {
         }
     }
 
-    /// The same claim with so many ones.
+    /// A claim of as many steps, with so many ones.
     pub fn with_ones(self, ones: u64) -> HaltsIn
         ensures { result ≡ record { steps = self.steps; ones = Some ones; reach = self.reach } }
     {
@@ -59,7 +59,7 @@ impl HaltsIn {
         }
     }
 
-    /// The same claim without them.
+    /// A claim of as many steps that says nothing of the ones.
     pub fn without_ones(self) -> HaltsIn
         ensures { result ≡ record { steps = self.steps; ones = None; reach = self.reach } }
     {

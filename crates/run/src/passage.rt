@@ -1,7 +1,7 @@
 // What a run does to sixteen cells until its head leaves them.
 ghost use Rattle.std.specs.Prelude.{◌<◌, IfSome};
 ghost use Rattle.machine_text.specs.Packed.{entry_of};
-ghost use Rattle.run.specs.Passages.{Passes};
+ghost use Rattle.run.specs.Passages.{TellsPassage};
 
 use machine_text::{Dir, State, Table};
 use tape::Window;
@@ -27,7 +27,7 @@ impl Passage {
     pub fn of(table: &Table, state: State, window: Window) -> Option<Passage>
         requires state { state.0 < table.now.states }
         requires at { window.at < 16 }
-        ensures passes { IfSome result (Passes (entry_of table.now) state.0 window) }
+        ensures passes { IfSome result (TellsPassage (entry_of table.now) state.0 window) }
         ensures state { IfSome result (λ p. p.state.0 < table.now.states) }
     {
         let mut now = window;

@@ -1,7 +1,7 @@
 // The passages of a table's run, remembered as they come.
 ghost use Rattle.std.specs.Prelude.{◌≡◌, ◌<◌, IfSome, IfOk};
 ghost use Rattle.machine_text.specs.Packed.{entry_of};
-ghost use Rattle.run.specs.Passages.{IsNumber, Passes};
+ghost use Rattle.run.specs.Passages.{IsWindowNumber, TellsPassage};
 
 use crate::passage::Passage;
 use machine_text::{State, Table};
@@ -46,7 +46,7 @@ impl Model for Passages {
 }
 
 impl Passages {
-    /// Those of a table, of which none is remembered yet.
+    /// The passages of a table, of which none is remembered yet.
     pub fn new(alloc: Global, table: Table) -> Result<Passages, NoMemory>
         ensures { IfOk result (λ passages. passages ≡ table) }
     {
@@ -62,7 +62,7 @@ impl Passages {
         requires state { state.0 < self.old.states }
         requires at { window.at < 16 }
         ensures kept { self.new ≡ self.old }
-        ensures passes { IfSome result (Passes (entry_of self.old) state.0 window) }
+        ensures passes { IfSome result (TellsPassage (entry_of self.old) state.0 window) }
     {
         // The proof needs how many states a table has.
         let _ = self.table.states();
@@ -79,9 +79,9 @@ impl Passages {
     fn find(&mut self, number: usize, state: State, window: Window) -> Option<Passage>
         requires state { state.0 < self.old.states }
         requires at { window.at < 16 }
-        requires number { IsNumber number state.0 window }
+        requires number { IsWindowNumber number state.0 window }
         ensures kept { self.new ≡ self.old }
-        ensures passes { IfSome result (Passes (entry_of self.old) state.0 window) }
+        ensures passes { IfSome result (TellsPassage (entry_of self.old) state.0 window) }
     {
         let found = Passage::of(&self.table, state, window);
         self.known[number] = match found {
@@ -96,7 +96,7 @@ impl Passages {
 #[inline]
 fn number_of(state: State, window: Window) -> Option<usize>
     requires state { state.0 < 8 }
-    ensures { IfSome result (λ number. IsNumber number state.0 window) }
+    ensures { IfSome result (λ number. IsWindowNumber number state.0 window) }
 {
     let side = match window.at {
         0 => 0,

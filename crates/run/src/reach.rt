@@ -1,7 +1,7 @@
 // How late a run halts, and by which letter a record says so.
 ghost use Rattle.std.specs.Prelude.{◌≡◌, ◌≤◌, ◌↔◌, IsTrue};
 ghost use Rattle.run.specs.Limits.{late_step_limit};
-ghost use Rattle.run.specs.Reach.{IsInReach, IsWithinReach, letter_of};
+ghost use Rattle.run.specs.Reach.{IsInReach, IsWithinReach, reach_letter};
 
 use crate::limits::{MAX_HALT_STEPS, MAX_LATE_STEPS};
 
@@ -15,7 +15,7 @@ pub enum Reach {
 }
 
 impl Reach {
-    /// That of a number of steps.
+    /// The reach of a number of steps.
     pub fn of(steps: u64) -> Reach
         requires { steps ≤ late_step_limit }
         ensures { IsWithinReach result steps }
@@ -29,7 +29,7 @@ impl Reach {
 
     /// The letter of its records.
     pub fn letter(self) -> &'static [u8]
-        ensures { result.now ≡ letter_of self }
+        ensures { result.now ≡ reach_letter self }
     {
         match self {
             Reach::Early => b"H",

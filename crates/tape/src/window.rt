@@ -52,7 +52,8 @@ impl Window {
     #[inline]
     pub fn moved(self, side: Dir) -> Option<Window>
         requires { self.at < 16 }
-        ensures some { IfSome result (λ w. w.cells ≡ self.cells × (w.at < 16) × (moved_head (pos self.at) side ≡ pos w.at)) }
+        ensures some { IfSome result
+            (λ w. w.cells ≡ self.cells × (w.at < 16) × (moved_head (pos self.at) side ≡ pos w.at)) }
         ensures none { IfNone result (moved_head (pos self.at) side ≡ place_beyond side (pos 0)) }
     {
         let cells = self.cells;

@@ -22,8 +22,8 @@ abbrev pub GivesMessage : ℕ → Leased → Message → Result Out NodeFault �
 GivesMessage era old m result new = ByRow (λ out. MessageRow era old m out new) (MayGrowFor era old (Ok m)) old result
     new
 
-abbrev pub GivesRecord : Leased → Recorded → Result Out NodeFault → Leased → Type 0
-GivesRecord old r result new = ByRow (λ out. RecordRow old r out new) (r.table.states ≡ old.board.root.states) old
+abbrev pub GivesJudged : Leased → Recorded → Result Out NodeFault → Leased → Type 0
+GivesJudged old r result new = ByRow (λ out. RecordRow old r out new) (r.table.states ≡ old.board.root.states) old
     result new
 
 abbrev pub GivesOffer : Leased → Recorded → Result Out NodeFault → Leased → Type 0

@@ -1,7 +1,7 @@
 use Rattle.std.proofs.Common.{◌≡◌, ℕ, ℤ, ◌+◌, ◌<◌, pos, ap, sym, ◌∙◌, subst, arith}
 use Rattle.machine_text.specs.Packed.{entry_of}
 use Rattle.law_turing.specs.Tape.{moved_head}
-use Rattle.run.specs.Passages.{Leads, beyond}
+use Rattle.run.specs.Passages.{LeavesSo, beyond}
 use Rattle.run.proofs.Passing.{leads_none, leads_more}
 use Rattle.run.proofs.passage.Passage.of.Goals as goal
 
@@ -15,7 +15,7 @@ returns-in-None-clause-passes c =
     let e = c.in_ok-entry.entry in
     let more = leads_more m c.args.state.0 c.args.window s.done s.at_state.0 s.now.cells s.now.at e c.write.new.self.cells s.invariant.leads s.invariant.inside (ap (m s.at_state.0) (sym c.read.ensures) ∙ sym c.in_ok-entry.ensures.entry) c.write.ensures.here c.write.ensures.others in
     let leaves : moved_head (pos s.now.at) e.dir ≡ beyond e.dir = ap (λ n. moved_head (pos n) e.dir) (sym c.write.ensures.at) ∙ c.in-None.ensures.none in
-    record { some = omega arith; leads = subst (λ (z : ℤ). Leads m c.args.state.0 c.args.window (s.done + 1) e.next.0 c.write.new.self.cells z) leaves more }
+    record { some = omega arith; leads = subst (λ (z : ℤ). LeavesSo m c.args.state.0 c.args.window (s.done + 1) e.next.0 c.write.new.self.cells z) leaves more }
 
 pub loop-done-preserved : goal.loop-done-preserved
 loop-done-preserved c =
@@ -29,6 +29,6 @@ loop-done-preserved c =
     record {
       inside = there.1;
       state = c.in_ok-entry.ensures.next;
-      leads = subst (λ (z : ℤ). Leads m c.args.state.0 c.args.window (s.done + 1) e.next.0 next.cells z) goes
-          (subst (λ (n : ℕ). Leads m c.args.state.0 c.args.window (s.done + 1) e.next.0 n (moved_head (pos s.now.at) e.dir)) (sym there.0) more);
+      leads = subst (λ (z : ℤ). LeavesSo m c.args.state.0 c.args.window (s.done + 1) e.next.0 next.cells z) goes
+          (subst (λ (n : ℕ). LeavesSo m c.args.state.0 c.args.window (s.done + 1) e.next.0 n (moved_head (pos s.now.at) e.dir)) (sym there.0) more);
     }

@@ -1,6 +1,6 @@
 use Rattle.std.proofs.Common.{◌<◌, pos}
 use Rattle.machine_text.specs.Packed.{entry_of}
-use Rattle.run.specs.Passages.{Leads}
+use Rattle.run.specs.Passages.{LeavesSo}
 use Rattle.run.proofs.passage.Passage.of.Given as goal
 
 -- what was done so far leads to a cell of the window
@@ -8,5 +8,5 @@ abbrev pub invariant-loop-done : goal.invariant-loop-done
 invariant-loop-done l = record {
   inside : l.now.at < 16;
   state : l.at_state.0 < l.fn.table.states;
-  leads : Leads (entry_of l.fn.table) l.fn.state.0 l.fn.window l.done l.at_state.0 l.now.cells (pos l.now.at);
+  leads : LeavesSo (entry_of l.fn.table) l.fn.state.0 l.fn.window l.done l.at_state.0 l.now.cells (pos l.now.at);
 }

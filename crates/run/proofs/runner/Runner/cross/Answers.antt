@@ -1,6 +1,6 @@
 use Rattle.std.proofs.Common.{◌≡◌, ◌≤◌, ◌-◌, ap, sym, ◌∙◌, subst, arith}
 use Rattle.machine_text.specs.Packed.{Packed, entry_of}
-use Rattle.run.specs.Passages.{Passes}
+use Rattle.run.specs.Passages.{TellsPassage}
 use Rattle.run.specs.RunState.{RunState}
 use Rattle.run.proofs.Passing.{may_cross, stands_crossed}
 use Rattle.run.proofs.runner.Runner.cross.Goals as goal
@@ -14,7 +14,7 @@ pub invariant_of-self-then-passage-k : goal.invariant_of-self-then-passage-k
 invariant_of-self-then-passage-k c =
     let began : c.self.inside.steps ≡ c.args.self.now.steps = ap (λ (r : RunState). r.steps) c.self.view_is in
     let table : c.args.passages.now ≡ c.self.inside.table = c.requires.passages ∙ ap (λ (r : RunState). r.table) (sym c.self.view_is) in
-    let passes = subst (λ (p : Packed). Passes (entry_of p) c.self.inside.state.0 c.window-window.result c.in-Some.passage) table c.in-Some.ensures.passes in
+    let passes = subst (λ (p : Packed). TellsPassage (entry_of p) c.self.inside.state.0 c.window-window.result c.in-Some.passage) table c.in-Some.ensures.passes in
     stands_crossed _ c.window-window.result c.in-Some.passage c.cross.new.self c.self.invariant c.window-window.ensures.cells passes c.in_ok-cross-in-Some.ensures.ok (omega (arith, began, c.if-passage-k.true, c.requires.onward, c.requires.limit))
 
 pub returns-in_ok-cross-in-Some-clause-ok : goal.returns-in_ok-cross-in-Some-clause-ok

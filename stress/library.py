@@ -156,7 +156,12 @@ class Library:
 def exported(library):
     """Both libraries show the functions of bb.h and no other name, and C++ takes the header."""
     with open(os.path.join(PACKAGING, "c", "bb.h"), encoding="utf-8") as file:
-        due = sorted(re.findall(r"^[\w ]+[ *](bb_\w+)\(", file.read(), re.M))
+        header = file.read()
+    due = sorted(re.findall(r"^[\w ]+[ *](bb_\w+)\(", header, re.M))
+    with open(os.path.join(TOP, "crates", "libbb", "src", "reader.rt"), encoding="utf-8") as file:
+        room = re.search(r"^const READER_BYTES: usize = (\d+);", file.read(), re.M)[1]
+    if f"#define BB_READER_BYTES {room}\n" not in header:
+        raise Differs(f"bb.h doesn't say that a reader has {room} bytes")
     for name, words in (("libbb.so", ["-D"]), ("libbb.a", ["--extern-only"])):
         run = ran(["nm", *words, "--defined-only", os.path.join(library.room, name)], capture_output=True, text=True)
         names = sorted(line.split()[-1] for line in run.stdout.splitlines() if len(line.split()) == 3)

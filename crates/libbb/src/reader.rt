@@ -22,6 +22,14 @@ pub enum Reader {
     Past(Behind),
 }
 
+// So many bytes of its caller's memory a reader has at most, aligned as words of eight are. `bb.h` gives the number to callers, and
+// `stress/library.py` compares the two.
+const READER_BYTES: usize = 1024;
+
+const _: () = prove!(size_of::<Reader>() <= READER_BYTES);
+
+const _: () = prove!(align_of::<Reader>() <= 8);
+
 impl Reader {
     /// Before the first byte.
     pub fn new() -> Reader

@@ -1,6 +1,6 @@
 // Runs on blocks, by rules, from one place to the next: where the head meets a block, or the end of the tape.
 use crate::block::{Times, with_first};
-use crate::fitting::Fitting;
+use crate::fitting::{Fitting, Name};
 use crate::form::Form;
 use crate::limits::{MAX_CONTEXT, MAX_REFUSED, MAX_STRETCH, MAX_SWEEP_STEPS};
 use crate::rule::Rule;
@@ -119,7 +119,7 @@ impl BlockRun {
             return Ok(false);
         };
         self.fitting
-            .apply(rule, &values, (b'u', number, 0), script)?;
+            .apply(rule, &values, Name::Known(number), script)?;
         Ok(true)
     }
 
@@ -134,7 +134,7 @@ impl BlockRun {
             if self.fitting.reads(guess, &script.tape)? && self.fitting.fits(&values) {
                 let number = self.rules.len().saturating_add(place);
                 self.fitting
-                    .apply(guess, &values, (b'g', number, 1), script)?;
+                    .apply(guess, &values, Name::Guessed(number), script)?;
                 return Ok(true);
             }
         }

@@ -33,6 +33,13 @@ impl Pair {
     }
 }
 
+// How a move says which rule it uses: one that is known, with all values, or one that is guessed, without the first.
+#[derive(Clone, Copy, Debug, PartialEq, Eq)]
+pub(crate) enum Name {
+    Known(usize),
+    Guessed(usize),
+}
+
 // A half tape block by block, from the head on. Where a symbol is asked for, the first copy of a block is read as
 // symbols.
 #[derive(Drop)]
@@ -209,16 +216,18 @@ impl Fitting {
         self.pairs.iter().all(|pair| pair.goes_on(values).is_some())
     }
 
-    // Has a script use the rule that was read, with these values: the move has this letter and number, and says those
-    // from one on.
+    // Has a script use the rule that was read, with these values.
     pub fn apply(
         &self,
         rule: &Rule,
         values: &[Times; VARIABLES],
-        named: (u8, usize, usize),
+        name: Name,
         script: &mut Script,
     ) -> Result<(), Stop> {
-        let (letter, number, first) = named;
+        let (letter, number, first) = match name {
+            Name::Known(number) => (b'u', number, 0),
+            Name::Guessed(number) => (b'g', number, 1),
+        };
         for (side, place) in self.spelled.iter() {
             let _ = script.expose(*side, *place)?;
         }

@@ -1,5 +1,7 @@
 // Runs on blocks, by rules, from one place to the next: where the head meets a block, or the end of the tape.
-use crate::fitting::Fitting;
+use crate::block::{Times, with_first};
+use crate::fitting::{Fitting, Name};
+use crate::form::Form;
 use crate::limits::{MAX_CONTEXT, MAX_REFUSED, MAX_STRETCH, MAX_SWEEP_STEPS};
 use crate::rule::Rule;
 use crate::script::Script;
@@ -9,13 +11,14 @@ use crate::sweep_rule::rule_of_sweep;
 use crate::texts::opposite;
 use machine_text::Table;
 use std::alloc::Global;
-use text::append_number;
 
 // The rules that are known, and what is left of the work.
 #[derive(Drop)]
 pub(crate) struct BlockRun {
     alloc: Global,
     pub rules: Vec<Rule>,
+    // What may become rules together, and is used for the same value of the first variable until then.
+    pub guesses: Vec<Rule>,
     sweeper: Sweeper,
     sweeps: Vec<Sweep>,
     // What has no sweep that isn't known.
@@ -32,6 +35,7 @@ impl BlockRun {
         BlockRun {
             alloc,
             rules: Vec::new(alloc),
+            guesses: Vec::new(alloc),
             sweeper: Sweeper::new(alloc),
             sweeps: Vec::new(alloc),
             refused: Vec::new(alloc),
@@ -44,10 +48,25 @@ impl BlockRun {
     // No rules again, and so much work; copies of so many cells at least become blocks.
     pub fn restart(&mut self, work: u64, cells: u32) {
         self.rules.clear();
+        self.guesses.clear();
         self.sweeps.clear();
         self.refused.clear();
         self.work = work;
         self.cells = cells;
+    }
+
+    // So much work again, with the rules that are known.
+    pub fn allow(&mut self, work: u64) {
+        self.work = work;
+    }
+
+    // Has a form be in its normal shape, as tapes are where the script stands.
+    pub fn normalize(&self, form: &mut Form, script: &mut Script) -> Result<(), Stop> {
+        let values = with_first(Times::growing(0, 1));
+        script.start(form, &values)?;
+        script.normalize(self.cells)?;
+        form.copy_put(&script.tape, &values)?;
+        Ok(())
     }
 
     // Has a script go on to the next place, where its halves are in their normal shapes.
@@ -77,6 +96,9 @@ impl BlockRun {
                 return Ok(true);
             }
         }
+        if self.uses_guess(script)? {
+            return Ok(true);
+        }
         match script.block(script.tape.side, 0) {
             Some(block) if multiple < u64::MAX && !block.times.is_number() => {
                 Err(Stop::Multiple(multiple))
@@ -96,19 +118,27 @@ impl BlockRun {
         let Some(values) = self.fitting.values()? else {
             return Ok(false);
         };
-        for (side, place) in self.fitting.spelled.iter() {
-            let _ = script.expose(*side, *place)?;
+        self.fitting
+            .apply(rule, &values, Name::Known(number), script)?;
+        Ok(true)
+    }
+
+    // Uses the first guess that fits for the same value of the first variable; whether there is one. Its number is
+    // the one that it has once all of them have become rules.
+    fn uses_guess(&mut self, script: &mut Script) -> Result<bool, Stop> {
+        let mut values = with_first(Times::growing(0, 1));
+        for value in values.iter_mut().skip(1) {
+            *value = Times::NEVER;
         }
-        for pair in self.fitting.pairs.iter() {
-            if pair.goes_on(&values) == Some(true) {
-                script.split(pair.side, pair.place, pair.wanted.put(&values))?;
+        for (place, guess) in self.guesses.iter().enumerate() {
+            if self.fitting.reads(guess, &script.tape)? && self.fitting.fits(&values) {
+                let number = self.rules.len().saturating_add(place);
+                self.fitting
+                    .apply(guess, &values, Name::Guessed(number), script)?;
+                return Ok(true);
             }
         }
-        script.begin_use(b'u')?;
-        append_number(number as u64, &mut script.text)?;
-        script.say_values(&values, 0)?;
-        script.replace(&rule.from, &rule.to, &values)?;
-        Ok(true)
+        Ok(false)
     }
 
     // Whether there is a sweep over the block at the head that isn't known; it becomes the last rule.

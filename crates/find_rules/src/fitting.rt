@@ -3,10 +3,12 @@ use crate::block::{Block, Times, VARIABLES};
 use crate::form::Form;
 use crate::half::Half;
 use crate::rule::Rule;
+use crate::script::Script;
 use crate::stop::Stop;
 use crate::word::Word;
-use machine_text::Dir;
+use machine_text::{Dir, Sym};
 use std::alloc::{AllocError as NoMemory, Global};
+use text::append_number;
 
 // A block that a rule wants, and what is there.
 #[derive(Clone, Copy, Debug, PartialEq, Eq)]
@@ -31,6 +33,13 @@ impl Pair {
     }
 }
 
+// How a move says which rule it uses: one that is known, with all values, or one that is guessed, without the first.
+#[derive(Clone, Copy, Debug, PartialEq, Eq)]
+pub(crate) enum Name {
+    Known(usize),
+    Guessed(usize),
+}
+
 // A half tape block by block, from the head on. Where a symbol is asked for, the first copy of a block is read as
 // symbols.
 #[derive(Drop)]
@@ -39,6 +48,8 @@ struct Reading<'a> {
     place: usize,
     spelled: Word,
     rest: Option<Block>,
+    // Whether blanks are read beyond the last block.
+    reads_blanks: bool,
 }
 
 impl Reading<'_> {
@@ -54,9 +65,17 @@ impl Reading<'_> {
             self.rest = None;
             return Some(rest);
         }
-        let block = self.half.at(self.place)?;
+        let block = self.half.at(self.place);
         self.place = self.place.saturating_add(1);
-        Some(block)
+        if block.is_none() && self.reads_blanks {
+            return Some(Block::symbol(Sym::Zero));
+        }
+        block
+    }
+
+    // Whether what was read last is beyond the last block.
+    fn is_beyond(&self) -> bool {
+        self.place > self.half.len()
     }
 
     // The first symbol of a block, the rest of which is read next.
@@ -103,12 +122,13 @@ impl Fitting {
             return Ok(false);
         }
         Ok(
-            self.reads_half(Dir::L, &rule.from.left, &tape.left)?
-                && self.reads_half(Dir::R, &rule.from.right, &tape.right)?,
+            self.reads_half(Dir::L, rule, &tape.left)?
+                && self.reads_half(Dir::R, rule, &tape.right)?,
         )
     }
 
-    fn reads_half(&mut self, side: Dir, wanted: &Half, half: &Half) -> Result<bool, NoMemory> {
+    fn reads_half(&mut self, side: Dir, rule: &Rule, half: &Half) -> Result<bool, NoMemory> {
+        let wanted = rule.from.half(side);
         if half.is_open && !wanted.is_open {
             return Ok(false);
         }
@@ -117,6 +137,7 @@ impl Fitting {
             place: 0,
             spelled: Word::EMPTY,
             rest: None,
+            reads_blanks: rule.is_joint && !half.is_open,
         };
         for (place, block) in wanted.blocks().iter().rev().enumerate() {
             let may_go_on = wanted.is_open && place.saturating_add(1) == wanted.len();
@@ -147,6 +168,9 @@ impl Fitting {
                 may_go_on,
             })?;
             return Ok(seen.word == wanted.word && !seen.is_symbol());
+        }
+        if reading.is_beyond() {
+            self.spelled.push((side, place))?;
         }
         if seen.is_symbol() {
             return Ok(seen == wanted);
@@ -180,12 +204,42 @@ impl Fitting {
                 *value = share;
             }
         }
+        if self.fits(&values) {
+            Ok(Some(values))
+        } else {
+            Ok(None)
+        }
+    }
+
+    // Whether as much is there as the rule takes with these values, and no more than may be.
+    pub fn fits(&self, values: &[Times; VARIABLES]) -> bool {
+        self.pairs.iter().all(|pair| pair.goes_on(values).is_some())
+    }
+
+    // Has a script use the rule that was read, with these values.
+    pub fn apply(
+        &self,
+        rule: &Rule,
+        values: &[Times; VARIABLES],
+        name: Name,
+        script: &mut Script,
+    ) -> Result<(), Stop> {
+        let (letter, number, first) = match name {
+            Name::Known(number) => (b'u', number, 0),
+            Name::Guessed(number) => (b'g', number, 1),
+        };
+        for (side, place) in self.spelled.iter() {
+            let _ = script.expose(*side, *place)?;
+        }
         for pair in self.pairs.iter() {
-            if pair.goes_on(&values).is_none() {
-                return Ok(None);
+            if pair.goes_on(values) == Some(true) {
+                script.split(pair.side, pair.place, pair.wanted.put(values))?;
             }
         }
-        Ok(Some(values))
+        script.begin_use(letter)?;
+        append_number(number as u64, &mut script.text)?;
+        script.say_values(values, first)?;
+        script.replace(&rule.from, &rule.to, values)
     }
 
     // How often it may be used: as the block that is used up first allows.

@@ -137,6 +137,16 @@ impl Half {
         word
     }
 
+    // How many cells its blocks have.
+    pub fn cells(&self) -> Times {
+        let mut cells = Times::NEVER;
+        for block in self.blocks.iter() {
+            let length = u64::from(block.word.length());
+            cells = cells.plus(block.times.multiple(length));
+        }
+        cells
+    }
+
     // Appends its symbols with a value for the variable, the nearest first, without blanks far away.
     pub fn append_symbols(&self, value: u64, out: &mut Vec<Sym>) -> Result<(), NoMemory> {
         for block in self.blocks.iter().rev() {

@@ -9,7 +9,8 @@
 //!
 //! `NestedFinder` runs on blocks from the blank tape on (`block_run`), by all rules that are known and fit (`rule`,
 //! `fitting`), with each half in one shape (`normal_shape`). Of what comes again (`places`) it guesses rules (`chain`)
-//! and families (`nested_family`), and proves them by such runs (`nested_record` writes what is found).
+//! and families (`nested_family`), and proves them by such runs (`nested_record` writes what is found). For counters it
+//! first guesses what the table does to copies of a word (`copies`), as rules that are proved together (`joint_rules`).
 //!
 //! Nothing is promised of what is found, nor of how long it takes: it is judged as any record is.
 #![tactic(auto)]
@@ -18,11 +19,13 @@ mod arriving;
 mod block;
 mod block_run;
 mod chain;
+mod copies;
 mod equations;
 mod family;
 mod fitting;
 mod form;
 mod half;
+mod joint_rules;
 mod limits;
 mod nested_family;
 mod nested_finder;

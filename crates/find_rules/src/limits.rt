@@ -74,6 +74,28 @@ pub(crate) const MAX_STRETCH: u64 = 5_000;
 // How many questions for a sweep that has no answer are kept in mind.
 pub(crate) const MAX_REFUSED: usize = 2_000;
 
+// Of rules that are proved together: how many words are tried for the copies (those of 1 to 4 symbols), for what is
+// behind the head (up to 3) and for what is beyond the copies (up to 2).
+pub(crate) const WORDS_COUNTED: u64 = 30;
+
+pub(crate) const WORDS_BEHIND: u64 = 15;
+
+pub(crate) const WORDS_BEYOND: u64 = 7;
+
+// Over how many copies the head is followed, and for how many steps.
+pub(crate) const COUNTED_COPIES: usize = 6;
+
+pub(crate) const COUNTED_STEPS: u64 = 60_000;
+
+// How many guesses there may be, how often all are tried, and for how many places one is, and all together.
+pub(crate) const MAX_JOINT: usize = 900;
+
+pub(crate) const JOINT_ROUNDS: u64 = 40;
+
+pub(crate) const JOINT_PLACES: u64 = 300;
+
+pub(crate) const JOINT_WORK: u64 = 100_000;
+
 // How far apart three places are that are of one rule or family: next to one another among those of their shape, or
 // each second or third one.
 pub(crate) const MAX_GAP: usize = 3;

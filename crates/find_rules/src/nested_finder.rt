@@ -1,6 +1,7 @@
 // The finder of rules with rules in them, for a run on blocks that learns as it goes.
 use crate::block_run::BlockRun;
 use crate::chain::Chain;
+use crate::joint_rules::JointRules;
 use crate::limits::{
     GUESSES, MAX_BLOCKS, MAX_GAP, MAX_GUESSED_FAMILIES, MAX_GUESSED_RULES, WORK_A_PLACE,
 };
@@ -25,6 +26,7 @@ pub struct NestedFinder {
     places: Places,
     alike: Vec<usize>,
     chain: Chain,
+    joint: JointRules,
     family: NestedFamily,
     // What was guessed of rules, and how many; the same of families, each with its shape.
     rules_guessed: Vec<u64>,
@@ -42,6 +44,7 @@ impl NestedFinder {
             places: Places::new(alloc),
             alike: Vec::new(alloc),
             chain: Chain::new(alloc),
+            joint: JointRules::new(alloc),
             family: NestedFamily::new(alloc),
             rules_guessed: Vec::new(alloc),
             families_guessed: Vec::new(alloc),
@@ -58,7 +61,27 @@ impl NestedFinder {
         cells: u32,
         places: u64,
     ) -> Result<Option<OwnedRules>, NoMemory> {
-        self.run.restart(places.saturating_mul(WORK_A_PLACE), cells);
+        self.run.restart(0, cells);
+        self.go(t, places)
+    }
+
+    /// The same by rules of counters, which are proved together first; none where there are none of these.
+    pub fn search_counters(
+        &mut self,
+        t: &Table,
+        cells: u32,
+        places: u64,
+    ) -> Result<Option<OwnedRules>, NoMemory> {
+        self.run.restart(0, cells);
+        if !self.joint.learn(t, &mut self.run)? {
+            return Ok(None);
+        }
+        self.go(t, places)
+    }
+
+    // Goes from place to place, by what is known, until there is a family.
+    fn go(&mut self, t: &Table, places: u64) -> Result<Option<OwnedRules>, NoMemory> {
+        self.run.allow(places.saturating_mul(WORK_A_PLACE));
         self.main.restart(State(0), Dir::R);
         self.places.clear();
         self.rules_guessed.clear();

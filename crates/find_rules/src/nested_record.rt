@@ -18,9 +18,10 @@ pub(crate) fn write_fields(
     }
     mark_used(&family.begin.text, &mut used);
     mark_used(&family.again.text, &mut used);
-    for (number, rule) in rules.iter().enumerate().rev() {
-        if used.get(number).copied().unwrap_or(false) {
-            mark_used(&rule.more, &mut used);
+    // Rules that are proved together use one another in any order.
+    for _ in rules.iter() {
+        if !marks_more(rules, &mut used) {
+            break;
         }
     }
     let mut numbers = Vec::new(alloc);
@@ -36,18 +37,36 @@ pub(crate) fn write_fields(
     append_family(family, &numbers, out)
 }
 
-// The rules that are used, with these numbers.
+// Marks what the marked rules use; whether more are marked then.
+fn marks_more(rules: &[Rule], used: &mut [bool]) -> bool {
+    let before = used.iter().filter(|is_used| **is_used).count();
+    for (number, rule) in rules.iter().enumerate().rev() {
+        if used.get(number).copied().unwrap_or(false) {
+            mark_used(&rule.none, used);
+            mark_used(&rule.more, used);
+        }
+    }
+    used.iter().filter(|is_used| **is_used).count() > before
+}
+
+// The rules that are used, with these numbers; those that are proved together are a group.
 fn append_rules(
     rules: &[Rule],
     used: &[bool],
     numbers: &[u64],
     out: &mut Vec<u8>,
 ) -> Result<(), NoMemory> {
+    let mut was_joint = false;
     for (rule, is_used) in rules.iter().zip(used.iter()) {
         if *is_used {
             if !out.is_empty() {
-                out.push(b';')?;
+                out.push(if was_joint && rule.is_joint {
+                    b'&'
+                } else {
+                    b';'
+                })?;
             }
+            was_joint = rule.is_joint;
             rule.append(numbers, out)?;
         }
     }

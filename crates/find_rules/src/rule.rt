@@ -12,6 +12,8 @@ pub(crate) struct Rule {
     pub to: Form,
     pub none: Vec<u8>,
     pub more: Vec<u8>,
+    // Whether it is proved together with those beside it of which that is so.
+    pub is_joint: bool,
 }
 
 impl Rule {
@@ -22,6 +24,7 @@ impl Rule {
             to: Form::new(alloc),
             none: Vec::new(alloc),
             more: Vec::new(alloc),
+            is_joint: false,
         }
     }
 
@@ -45,10 +48,10 @@ impl Rule {
     }
 }
 
-// Of a move that uses a rule: its number, and where what is behind it begins.
-fn used_rule(part: &[u8]) -> Option<(u64, usize)> {
-    let rest = match part {
-        [b'u', rest @ ..] => rest,
+// Of a move that uses a rule: its letter, its number, and where what is behind it begins.
+fn used_rule(part: &[u8]) -> Option<(u8, u64, usize)> {
+    let (letter, rest) = match part {
+        [letter @ (b'u' | b'g'), rest @ ..] => (*letter, rest),
         _ => return None,
     };
     let mut count = 0usize;
@@ -59,7 +62,7 @@ fn used_rule(part: &[u8]) -> Option<(u64, usize)> {
         count = count.saturating_add(1);
     }
     let number = decimal_value(rest.get(..count)?)?;
-    Some((number, count.saturating_add(1)))
+    Some((letter, number, count.saturating_add(1)))
 }
 
 // Appends a script, in which the rules have these numbers.
@@ -74,12 +77,12 @@ pub(crate) fn append_renumbered(
             out.push(b',')?;
         }
         is_first = false;
-        let Some((number, end)) = used_rule(part) else {
+        let Some((letter, number, end)) = used_rule(part) else {
             out.extend_from_slice(part)?;
             continue;
         };
         let number = numbers.get(number as usize).copied().unwrap_or(0);
-        out.push(b'u')?;
+        out.push(letter)?;
         append_number(number, out)?;
         if let Some(rest) = part.get(end..) {
             out.extend_from_slice(rest)?;
@@ -91,7 +94,7 @@ pub(crate) fn append_renumbered(
 // Marks the rules that a script uses.
 pub(crate) fn mark_used(script: &[u8], used: &mut [bool]) {
     for part in script.split(|byte| *byte == b',') {
-        if let Some((number, _)) = used_rule(part)
+        if let Some((_, number, _)) = used_rule(part)
             && let Some(mark) = used.get_mut(number as usize)
         {
             *mark = true;

@@ -33,6 +33,21 @@ impl Word {
         self.length
     }
 
+    // The words by their lengths, and those of a length in some order: 1 is that of no symbols, 2 and 3 have one.
+    pub fn numbered(number: u64) -> Word {
+        let mut word = Word::EMPTY;
+        for place in 0..LONGEST_WORD {
+            if number >> place.min(63) <= 1 {
+                break;
+            }
+            word = Word {
+                length: place.saturating_add(1),
+                bits: number & lowest(place.saturating_add(1)),
+            };
+        }
+        word
+    }
+
     // The symbol at a place; a blank past the word's end.
     pub fn symbol(self, place: u32) -> Sym {
         if self.bits >> place.min(63) & 1 == 1 {
@@ -40,6 +55,16 @@ impl Word {
         } else {
             Sym::Zero
         }
+    }
+
+    // With this symbol at a place of it.
+    pub fn with(self, place: u32, symbol: Sym) -> Word {
+        let bit = 1 << place.min(63);
+        let bits = match symbol {
+            Sym::Zero => self.bits & !bit,
+            Sym::One => self.bits | bit,
+        };
+        Word { bits, ..self }
     }
 
     // With one more symbol behind it.
@@ -57,6 +82,12 @@ impl Word {
             length,
             bits: self.bits | other.bits << self.length.min(63),
         })
+    }
+
+    // With another one put in at a place.
+    pub fn with_word(self, place: u32, other: Word) -> Option<Word> {
+        let rest = self.part(place, self.length.saturating_sub(place));
+        self.part(0, place).then(other)?.then(rest)
     }
 
     // So many symbols of it, from a place on.
@@ -129,6 +160,13 @@ impl Word {
     pub fn agreement(self, other: Word) -> u32 {
         let same = (self.bits ^ other.bits).trailing_zeros();
         same.min(self.length).min(other.length)
+    }
+
+    // Whether the other one is this one, with something put in.
+    pub fn may_grow_to(self, other: Word) -> bool {
+        let first = self.agreement(other);
+        let last = self.reversed().agreement(other.reversed());
+        first.saturating_add(last) >= self.length
     }
 
     // A number that says which word it is.

@@ -84,6 +84,10 @@ impl HardFinder {
             Stage::NestedRules { cells, places } => {
                 boxed_rules(self.alloc, self.nested.search(t, cells, places)?)?
             }
+            Stage::Counters { cells, places } => {
+                let found = self.nested.search_counters(t, cells, places)?;
+                boxed_rules(self.alloc, found)?
+            }
         };
         match found {
             Some(certificate) => Decided::by(self.alloc, t, certificate),

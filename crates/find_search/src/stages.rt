@@ -30,6 +30,8 @@ pub(crate) enum Stage {
     Rules { tries: u64 },
     // Rules with induction that use one another, in a run of so many places on blocks of so many cells at least.
     NestedRules { cells: u32, places: u64 },
+    // The same by rules of counters, which are proved together first.
+    Counters { cells: u32, places: u64 },
 }
 
 // Backward reasoning goes so far.
@@ -70,7 +72,7 @@ macro_rules! automata {
 pub(crate) const FIRST_STAGES: usize = 8;
 
 // The stages, in their order.
-pub(crate) const STAGES: [Stage; 22] = [
+pub(crate) const STAGES: [Stage; 23] = [
     Stage::Names,
     Stage::Loops {
         first: 50,
@@ -107,5 +109,9 @@ pub(crate) const STAGES: [Stage; 22] = [
     Stage::NestedRules {
         cells: 8,
         places: 4_000,
+    },
+    Stage::Counters {
+        cells: 8,
+        places: 500,
     },
 ];

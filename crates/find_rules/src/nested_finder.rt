@@ -65,7 +65,7 @@ impl NestedFinder {
         self.go(t, places)
     }
 
-    /// The same by rules of counters, which are proved together first; none where there are none of these.
+    /// Searches likewise by rules of counters, which are proved together first; none where there are none of these.
     pub fn search_counters(
         &mut self,
         t: &Table,

@@ -30,7 +30,7 @@ pub(crate) enum Stage {
     Rules { tries: u64 },
     // Rules with induction that use one another, in a run of so many places on blocks of so many cells at least.
     NestedRules { cells: u32, places: u64 },
-    // The same by rules of counters, which are proved together first.
+    // Such a run by rules of counters, which are proved together first.
     Counters { cells: u32, places: u64 },
 }
 

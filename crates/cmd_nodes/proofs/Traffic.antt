@@ -29,11 +29,15 @@ module _ {N : Type 0} (answers : Answering N) where
   -- or it brings a fault
   pub listens_fault : (takes : Taking) (old : Served N) (came : Option Incoming) (before after : Traffic) → after.arrived ≡ noted_if before.arrived came
       → ((place : ℕ) → after.sent place ≡ before.sent place) → ListensFrom answers takes old before after
-  listens_fault takes old came before after comes unsent = (old, came, record {
-    exchanges = [];
-    serves = serves_none answers takes old before.sent after.sent unsent;
-    came = comes ∙ ap (λ (a : Option (List Incoming)). noted_if a came) (noted_none before.arrived);
-  })
+  listens_fault takes old came before after comes unsent = (
+    old,
+    came,
+    record {
+      exchanges = [];
+      serves = serves_none answers takes old before.sent after.sent unsent;
+      came = comes ∙ ap (λ (a : Option (List Incoming)). noted_if a came) (noted_none before.arrived);
+    },
+  )
 
   -- what comes behind it
   pub listens_on : (takes takes' : Taking) (old at new : Served N) (last : Option Incoming) (before then after : Traffic) → Listens answers takes old at None before then

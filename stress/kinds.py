@@ -6,7 +6,7 @@ stress/kinds.py any [SEED [BATCHES]]   batches of 5,000 damaged lines of all kin
 stress/kinds.py P [SEED]               the tables that have a proof of their own (Skelet 1 apart, whose check takes half a
                                        minute: stress/skelet1.py check), each with one entry changed, mirrored, and 10,000
                                        others that are drawn by the seed
-stress/kinds.py L                      tables of docs/SIX.md that halt late, as a plain simulator in C ran them, with these numbers
+stress/kinds.py L                      tables of examples/six-slice.late, as a plain simulator in C ran them, with these numbers
                                        and with others; and numbers at the limits of the kind
 stress/kinds.py LETTER compare RECORDS [PROGRAM ..]
                                        LETTER is A, W or R: these records and 2,000 changed ones; what the program prints,

@@ -58,12 +58,12 @@ OfferRow old r out new =
     × KeepsTree old.board new.board × LeasesAfter r.table said old new × RecRow old.board.format r said out
 
 -- a late halt of more steps than those that are judged for a peer
-abbrev pub IsTooLate : Reach → ℕ → Type 0
-IsTooLate Early k = ⊥
-IsTooLate Late k = peer_step_limit < k
+abbrev pub IsOverLong : Reach → ℕ → Type 0
+IsOverLong Early k = ⊥
+IsOverLong Late k = peer_step_limit < k
 
 abbrev pub IsBeyondPeers : Claim → Type 0
-IsBeyondPeers (HaltsClaim e) = IsTooLate e.reach e.steps
+IsBeyondPeers (HaltsClaim e) = IsOverLong e.reach e.steps
 IsBeyondPeers (NeverClaim reason) = ⊥
 IsBeyondPeers NoClaim = ⊥
 

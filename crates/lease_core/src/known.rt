@@ -2,7 +2,7 @@
 ghost use Rattle.std.specs.Prelude.{◌↔◌, IsTrue};
 ghost use Rattle.cert.specs.Kinds.{claim_of, recorded};
 ghost use Rattle.ledger.specs.Offers.{IsKnown};
-ghost use Rattle.lease_core.specs.CoordinatorRules.{IsTooLate, IsBeyondPeers};
+ghost use Rattle.lease_core.specs.CoordinatorRules.{IsOverLong, IsBeyondPeers};
 
 use crate::limits::MAX_PEER_STEPS;
 use cert::{Certificate, Record};
@@ -30,7 +30,7 @@ pub(crate) fn is_beyond_peers(certificate: &Certificate<'_>) -> bool
 }
 
 fn is_beyond(reach: Reach, steps: u64) -> bool
-    ensures { IsTrue result ↔ IsTooLate reach steps }
+    ensures { IsTrue result ↔ IsOverLong reach steps }
 {
     match reach {
         Reach::Early => false,

@@ -194,6 +194,24 @@ def two_walks():
         sys.exit("losses: a walk didn't save what it saves alone")
 
 
+def two_coordinators():
+    """Of two coordinators of one ledger the second ends, for as long as the first goes on."""
+    room = Room({})
+    Room.tried += 3
+    words = [PROGRAM, "coord", "1", "--ledger", "kept"]
+    first = subprocess.Popen(words, stdin=subprocess.PIPE, stdout=subprocess.PIPE, stderr=subprocess.DEVNULL, cwd=room.folder)
+    for line in (b"ASK 1\n", b"REC " + ROOT):
+        first.stdin.write(line)
+        first.stdin.flush()
+        first.stdout.readline()
+        second = subprocess.run(words, input=b"", capture_output=True, cwd=room.folder, check=False)
+        if second.returncode != 4 or second.stdout or not second.stderr.startswith(REFUSED[3]):
+            sys.exit(f"losses: a second coordinator of a ledger: {second!r}")
+    first.stdin.close()
+    if first.wait(PATIENCE) != 1 or room.held()["kept"] != HEADER + ROOT:
+        sys.exit(f"losses: the first coordinator of a ledger leaves {room.held()!r}")
+
+
 def lines_of_their_own():
     """On a terminal that shows both streams a report isn't glued to the line that tells how far the reading is."""
     packed = os.path.join(TOP, "examples", "four-states.ledger.xz")
@@ -370,7 +388,7 @@ def by_links():
 
 
 def main():
-    for play in (unless_replaced, half_lines, two_walks, lines_of_their_own, pipes, without_leave, places_to_listen, by_links):
+    for play in (unless_replaced, half_lines, two_walks, two_coordinators, lines_of_their_own, pipes, without_leave, places_to_listen, by_links):
         play()
     for folder in Room.folders:
         shutil.rmtree(folder, ignore_errors=True)

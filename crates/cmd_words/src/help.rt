@@ -447,7 +447,8 @@ is no record. With --why the words are in the object too, and not on standard er
 
 With --why standard error says why each refused line is refused, as `line N: WORDS`. For a halting record with a wrong
 number it says in how many steps the table halts, where that is within 100,000,000, or of a record L in the steps that
-it says, and such a line costs a run of as many steps. At a terminal standard error names the first line that is a table alone, at the end.
+it says, and such a line costs a run of as many steps. At a terminal standard error names the first line that is a
+table alone, at the end.
 
 Exit status: 0 all accepted; 1 a line was refused; 2 a wrong command line; 3 out of memory
 (`refused memory` on standard error); 4 a stream failed (`refused 603`).";

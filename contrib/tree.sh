@@ -1,10 +1,9 @@
 #!/bin/sh
 # Settles the tree of N states in parts, on all processors of this machine, and prints its report:
 #   contrib/tree.sh N DIR [OPTIONS OF bb settle..]
-# DIR is made; a run that was stopped goes on from it. Without options it takes --hard, and for five states also the known records
-# of the tables that no search of bb settles. BB names the program (bb beside contrib/ if it isn't set), JOBS how many parts are
-# settled at once, FILLED how many entries the tables of the trunk have (N - 1 up to four states, N from five on, if it isn't
-# set).
+# DIR is made; a run that was stopped goes on from it. Without options it takes --hard. BB names the program (bb beside contrib/
+# if it isn't set), JOBS how many parts are settled at once, FILLED how many entries the tables of the trunk have (N - 1 up to
+# four states, N from five on, if it isn't set).
 #
 # Before it begins it says how much disk the tree takes and how much there is, and stops where that isn't enough; ROOM=any begins
 # all the same. contrib/parallel.sh then says how far it is, and names each part that fails: the others go on, and the script ends
@@ -17,10 +16,7 @@ folder=${2:?"$usage"}
 shift 2
 case $states in [1-7]) ;; *) echo "$usage" >&2; exit 2 ;; esac
 here=$(dirname "$0")
-if [ $# -eq 0 ]; then
-    set -- --hard
-    [ "$states" != 5 ] || set -- --hard --known "$here/../examples/five-states.known"
-fi
+[ $# -ne 0 ] || set -- --hard
 # The script bb sums up its sources each time: it is asked once which program it runs.
 BB=${BB:-$("$here/../bb" --where)}
 export BB

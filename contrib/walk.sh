@@ -1,11 +1,11 @@
 #!/bin/sh
 # Walks the tree of N states on all processors of this machine, and adds the reports up:
 #   contrib/walk.sh N [K] [OPTIONS OF bb walk..]
-# The tables with fewer than K filled entries (4, or N - 1 for less than five states) are the trunk; each table that it leaves open
-# is the root of a walk, and their trees are disjoint. Without options it takes --hard, and for five states also the known records of
-# the tables that no search of bb settles. BB names the program (bb beside contrib/ if it isn't set), JOBS how many walks go on at
-# once. Every ten seconds, or every EVERY seconds, standard error says how many are done; a walk that fails is named with its exit
-# status, and ends the script. The report comes on standard output; status 0 where it says complete, 1 where it doesn't.
+# The tables with fewer than K filled entries (4, or N - 1 for less than five states) are the trunk; each table that it leaves
+# open is the root of a walk, and their trees are disjoint. Without options it takes --hard. BB names the program (bb beside
+# contrib/ if it isn't set), JOBS how many walks go on at once. Every ten seconds, or every EVERY seconds, standard error says
+# how many are done; a walk that fails is named with its exit status, and ends the script. The report comes on standard output;
+# status 0 where it says complete, 1 where it doesn't.
 #
 # It adds, and proves nothing: what is proved holds of each report by itself. bb walk N, in one process, proves the whole, and
 # so do contrib/tree.sh and bb join, which keep all records.
@@ -15,10 +15,7 @@ states=${1:?"contrib/walk.sh N [K] [OPTIONS..]"}
 shift
 filled=$((states < 5 ? states - 1 : 4))
 case $1 in [0-9]*) filled=$1; shift ;; esac
-if [ $# -eq 0 ]; then
-    set -- --hard
-    [ "$states" != 5 ] || set -- --hard --known "$(dirname "$0")/../examples/five-states.known"
-fi
+[ $# -ne 0 ] || set -- --hard
 # The script bb sums up its sources each time: it is asked once which program it runs.
 bb=${BB:-$("$(dirname "$0")/../bb" --where)}
 jobs=${JOBS:-$(getconf _NPROCESSORS_ONLN)}

@@ -34,7 +34,7 @@ PATIENCE = 300
 PACKED = [
     "bin/bb", "share/man/man1/bb.1.gz", "share/bash-completion/completions/bb", "share/zsh/vendor-completions/_bb",
     "share/fish/vendor_completions.d/bb.fish", "share/doc/busy-beaver/README.md", "share/doc/busy-beaver/docs/FORMATS.md",
-    "share/doc/busy-beaver/examples/four-states.ledger.xz", "share/busy-beaver/examples/five-states.known",
+    "share/doc/busy-beaver/examples/four-states.ledger.xz", "share/doc/busy-beaver/examples/five-states.known",
     "share/busy-beaver/contrib/tree.sh", "share/busy-beaver/contrib/rules", "share/busy-beaver/contrib/png", "share/busy-beaver/contrib/import/dfa.py", "share/busy-beaver/contrib/import/README.md",
 ]
 

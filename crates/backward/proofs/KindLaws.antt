@@ -1,12 +1,10 @@
 -- Backward reasoning is a kind.
 use Rattle.std.proofs.Common.{[], refl, arith}
 use Rattle.std.specs.Prelude.{decimal}
-use Rattle.text.specs.Fields.{AreFields}
-use Rattle.text.proofs.Numbers.{decimal_value-decimal, length_of_number}
-use Rattle.text.proofs.Spaced.{number_is_field, and_field, no_fields, length-spaced}
-use Rattle.kind_evidence.specs.Kind.{IsKind}
-use Rattle.kind_evidence.proofs.Letters.{is_letter}
-use Rattle.kind_evidence.proofs.Room.{have_room}
+use Rattle.text.specs.Terms.{AreFields}
+use Rattle.text.proofs.DecimalFields.{decimal_value-decimal, length_of_number, number_is_field, and_field, no_fields, length-spaced}
+use Rattle.kind_evidence.specs.Terms.{IsKind}
+use Rattle.kind_evidence.proofs.EvidenceLaws.{is_letter, have_room}
 use Rattle.backward.specs.declared.backward.Backward.{Backward}
 use Rattle.backward.specs.Kind.{backward_fields, backward_kind}
 

@@ -1,7 +1,3 @@
-pub mod Tapes
-pub mod Sums
-pub mod Chained
+pub mod PathLaws
 pub mod Counting
-pub mod Widths
-pub mod Checked
 pub mod KindLaws

@@ -1,17 +1,27 @@
--- Backward reasoning as a kind of certificates: how its field is read and written, what it means, and its law.
-use Rattle.std.specs.Prelude.{ℕ, List, [], ◌∷◌, Result, Ok, Err, decimal, ◌<◌, ◌≤◌, ◌^◌, codes}
-use Rattle.text.specs.Decimal.{decimal_value}
-use Rattle.text.specs.Fields.{with_value}
+-- Backward reasoning as a kind of certificates.
+use Rattle.std.specs.Prelude.{◌≡◌, ℕ, ◌≤◌, Some, List, [], ◌∷◌, Result, Ok, Err, decimal, ◌<◌, ◌^◌, codes}
+use Rattle.machine_text.specs.Terms.{Packed, entry_of}
+use Rattle.law_turing.specs.Terms.{Config, after, IsWider, Backward as IsBackward}
+use Rattle.backward.specs.Limits.{path_limit, depth_limit}
+use Rattle.text.specs.Terms.{decimal_value, with_value}
 use Rattle.text.specs.declared.fields.FieldFault.{FieldFault}
 use Rattle.text.specs.declared.fields.FieldFault.TheVariants.{BadKind}
-use Rattle.machine_text.specs.Packed.{entry_of}
-use Rattle.law_turing.specs.Backward.{Backward as IsBackward}
 use Rattle.law_turing.proofs.BackwardLaws.{backward_never}
-use Rattle.law_turing.proofs.TableLaws.{table_machine}
-use Rattle.kind_evidence.specs.Kind.{Kind}
+use Rattle.law_turing.proofs.RunLaws.{table_machine}
+use Rattle.kind_evidence.specs.Terms.{Kind}
 use Rattle.backward.specs.declared.backward.Backward.{Backward}
-use Rattle.backward.specs.Limits.{depth_limit}
-use Rattle.backward.specs.Paths.{IsTooWide}
+
+-- When backward reasoning has more paths to go through than it may.
+
+-- the run does so many steps, and some depth up to them has more paths than the limit
+pub record IsTooWide (p : Packed) (steps : ℕ) : Type 0 where
+  pub at : Config
+  pub runs : after (entry_of p) steps ≡ Some at
+  pub depth : ℕ
+  pub within : depth ≤ steps
+  pub wider : IsWider p.states (entry_of p) depth path_limit
+
+-- Backward reasoning as a kind of certificates: how its field is read and written, what it means, and its law.
 
 -- a depth
 abbrev pub backward_by : List (List ℕ) → Result Backward FieldFault

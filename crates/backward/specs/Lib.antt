@@ -1,4 +1,4 @@
 pub mod Limits
-pub mod Paths
 pub mod Kind
 pub mod inside
+pub mod Terms

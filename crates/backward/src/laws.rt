@@ -1,5 +1,5 @@
 // The law of the kind.
-ghost use Rattle.kind_evidence.specs.Kind.{IsKind};
+ghost use Rattle.kind_evidence.specs.Terms.{IsKind};
 ghost use Rattle.backward.specs.Kind.{backward_kind};
 
 /// Backward reasoning is a kind: its field reads back, and where it stands the table never halts.

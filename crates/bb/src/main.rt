@@ -1,6 +1,6 @@
-//! `bb`, a verified tool for the busy beaver problem: `main` hands the words of the command line, the streams and
-//! the system's files and sockets to `obey` (`cmd_dispatch`). The words are read in the crate `cmd_words`, and what the commands
-//! do stands in `cmd_lines`, `cmd_ledgers`, `cmd_parts` and `cmd_nodes`.
+//! `bb`, a verified tool for the busy beaver problem: `main` hands the words of the command line, the streams and the
+//! system's files and sockets to `obey` (`cmd_dispatch`). The words are read in `cmd_words`; what the commands do
+//! stands in the other crates whose names begin with `cmd_`.
 #![tactic(auto)]
 
 mod built;

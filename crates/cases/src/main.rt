@@ -1,13 +1,12 @@
-//! Keeps the rows of `data/`: commands over given streams and files in memory, by the functions that other programs call, and
-//! what words ask for. A row is a case as `stress/cases.py` says it, of which a few lines are read here: files, commands,
-//! standard input, both outputs, the exit status and what the words ask for. `stress/cases.py` plays the same rows, and all
-//! others, with the built program.
+//! Keeps the rows of `data/`: commands over given streams and files in memory, by the functions that other programs
+//! call, and what words ask for. A row is a case as `stress/cases.py` says it, of which a few lines are read here:
+//! files, commands, standard input, both outputs, the exit status and what the words ask for. `stress/cases.py` plays
+//! the same rows, and all others, with the built program.
 #![tactic(auto)]
 
 mod commands;
 mod mem_files;
 mod playing;
-mod row;
 
 use playing::Playing;
 use std::process::ExitCode;

@@ -1,5 +1,5 @@
 // Files in memory.
-use crate::row::FileText;
+use crate::playing::FileText;
 use cmd_options::{Ended, LedgerFile};
 use files::{Files, Opened};
 use std::alloc::{AllocError as NoMemory, Global};
@@ -61,7 +61,7 @@ impl MemFiles {
 
 impl Files for MemFiles {
     ghost use Rattle.std.specs.Prelude.{⊤};
-    ghost use Rattle.files.specs.Paths.{Unknown};
+    ghost use Rattle.files.specs.Terms.{Unknown};
 
     ghost holds = { λ files path. Unknown };
 

@@ -1,23 +1,41 @@
--- The grammar of a record's text: a table, a space, a kind, and so many fields, each after a space. Bytes are their
--- ASCII codes: 32 is the space. How the fields of a kind are read and written is said in the kind's crate.
-use Rattle.std.specs.Prelude.{ℕ, nat_lt, if◌then◌else◌, List, [], ◌∷◌, ◌++◌, Result, Ok, Err, length, codes}
+-- The grammar of a record's text, and why a text is no record.
+use Rattle.std.specs.Prelude.{ℕ, List, codes, nat_lt, if◌then◌else◌, [], ◌∷◌, ◌++◌, Result, Ok, Err, length}
 use Rattle.std.specs.Str.{bytes_eq}
-use Rattle.machine_text.specs.declared.faults.TextFault.{TextFault}
-use Rattle.machine_text.specs.Packed.{Packed}
-use Rattle.machine_text.specs.Text.{table_of, text_of}
-use Rattle.text.specs.Fields.{made_of, spaced}
-use Rattle.text.specs.Parts.{parts_of}
 use Rattle.text.specs.declared.fields.FieldFault.{FieldFault}
-use Rattle.text.specs.declared.fields.FieldFault.TheVariants.{BadKind as NoKind}
-use Rattle.run.specs.Fields.{halts_by, halts_fields}
-use Rattle.run.specs.Reach.{reach_letter}
+use Rattle.text.specs.declared.fields.FieldFault.TheVariants.{BadKind as NoKind, BadNumber as NoNumber, BadList as NoList, TooLong as LongLists}
+use Rattle.cert.specs.declared.record.RecordFault.{RecordFault}
+use Rattle.cert.specs.declared.record.RecordFault.TheVariants.{BadTable, BadKind, BadNumber, BadList, TooLong}
+use Rattle.machine_text.specs.declared.grammar.TextFault.{TextFault}
+use Rattle.machine_text.specs.Terms.{Packed, table_of, text_of}
+use Rattle.text.specs.Terms.{made_of, spaced, parts_of}
+use Rattle.run.specs.Terms.{halts_by, halts_fields, reach_letter}
 use Rattle.run.specs.declared.reach.Reach.TheVariants.{Early, Late}
 use Rattle.cert.specs.Limits.{record_byte_limit}
-use Rattle.cert.specs.declared.record_fault.RecordFault.{RecordFault}
-use Rattle.cert.specs.declared.record_fault.RecordFault.TheVariants.{BadTable, BadKind, TooLong}
-use Rattle.cert.specs.Claim.{Claim, HaltsClaim, NeverClaim, NoClaim, Recorded}
-use Rattle.cert.specs.Reason.{reason_by, reason_letter, reason_fields}
-use Rattle.cert.specs.Fault.{fault_of_field}
+use Rattle.cert.specs.Claim.{Claim, HaltsClaim, NeverClaim, NoClaim, Recorded, reason_by, reason_letter, reason_fields}
+
+-- The refusal number of each fault of a record's text, the sentence that says it, and which one a fault of its fields is.
+abbrev pub record_fault_number : RecordFault → ℕ
+record_fault_number (BadTable f) = 301
+record_fault_number BadKind = 302
+record_fault_number BadNumber = 303
+record_fault_number BadList = 304
+record_fault_number TooLong = 305
+
+abbrev pub record_fault_text : RecordFault → List ℕ
+record_fault_text (BadTable f) = codes "there is no table before the first space"
+record_fault_text BadKind = codes "there is no kind of record with these fields"
+record_fault_text BadNumber = codes "a field is no number or no side"
+record_fault_text BadList = codes "a field is no list of its kind"
+record_fault_text TooLong = codes "the record is longer than 65000 bytes"
+
+abbrev pub fault_of_field : FieldFault → RecordFault
+fault_of_field NoKind = BadKind
+fault_of_field NoNumber = BadNumber
+fault_of_field NoList = BadList
+fault_of_field LongLists = TooLong
+
+-- The grammar of a record's text: a table, a space, a kind, and so many fields, each after a space. Bytes are their
+-- ASCII codes: 32 is the space. How the fields of a kind are read and written is said in the kind's crate.
 
 -- a claim of nothing has no fields
 abbrev pub undecided_by : List (List ℕ) → Result Claim FieldFault

@@ -1,23 +1,17 @@
 -- What the certificates and records of the code claim.
-use Rattle.cert.specs.Claim.{Claim, HaltsClaim, NeverClaim, NoClaim, Recorded}
-use Rattle.cert.specs.Reason.{CycleReason, TranslatedReason, BackwardReason, NgramReason, FarReason, ListedReason, CountedReason, RulesReason, NamedReason}
+use Rattle.cert.specs.Claim.{Claim, HaltsClaim, NeverClaim, NoClaim, Recorded, CycleReason, TranslatedReason, BackwardReason, NgramReason, FarReason, ListedReason, CountedReason, RulesReason, NamedReason}
 use Rattle.std.specs.Prelude.{Result, Ok, Err}
-use Rattle.far.specs.Far.{automata_of}
-use Rattle.far.specs.OwnedFar.{owned_automata}
-use Rattle.kind_counted.specs.CountedCosets.{coset_texts_of}
-use Rattle.kind_counted.specs.OwnedCosets.{owned_coset_texts}
-use Rattle.kind_rules.specs.Claims.{rule_texts_of, owned_rule_texts}
-use Rattle.far.specs.Listed.{texts_of}
-use Rattle.far.specs.OwnedListed.{owned_texts}
-use Rattle.ngram_cps.specs.Ngram.{lists_of}
-use Rattle.ngram_cps.specs.Owned.{owned_lists}
+use Rattle.far.specs.Terms.{automata_of, owned_automata, texts_of, owned_texts}
+use Rattle.kind_counted.specs.Terms.{coset_texts_of, owned_coset_texts}
+use Rattle.kind_rules.specs.Terms.{rule_texts_of, owned_rule_texts}
+use Rattle.ngram_cps.specs.Terms.{lists_of, owned_lists}
 use Rattle.cert.specs.declared.certificate.Certificate.{Certificate}
 use Rattle.cert.specs.declared.certificate.Certificate.TheVariants.{Halts, Cycle, Translated, Backward, Ngram, Far, Listed, Counted, Rules, Named, Undecided}
 use Rattle.cert.specs.declared.certificate.OwnedCertificate.{OwnedCertificate}
 use Rattle.cert.specs.declared.certificate.OwnedCertificate.TheVariants.{Halts as OwnedHalts, Cycle as OwnedCycle, Translated as OwnedTranslated, Backward as OwnedBackward, Ngram as OwnedNgram, Far as OwnedFar, Listed as OwnedListed, Counted as OwnedCounted, Rules as OwnedRules, Named as OwnedNamed, Undecided as OwnedUndecided}
 use Rattle.cert.specs.declared.record.Record.{Record}
 use Rattle.cert.specs.declared.record.OwnedRecord.{OwnedRecord}
-use Rattle.cert.specs.declared.record_fault.RecordFault.{RecordFault}
+use Rattle.cert.specs.declared.record.RecordFault.{RecordFault}
 
 abbrev pub claim_of : Certificate → Claim
 claim_of (Halts e) = HaltsClaim e

@@ -1,9 +1,6 @@
 pub mod Limits
-pub mod Reason
 pub mod Claim
 pub mod Certified
-pub mod Scored
 pub mod Grammar
-pub mod Asking
 pub mod Kinds
-pub mod Fault
+pub mod Terms

@@ -1,8 +1,8 @@
 // Certificates, borrowed and owned.
 ghost use Rattle.std.specs.Prelude.{◌≡◌, ◌≤◌, ◌++◌, take, length, IfOk, OnOk};
 ghost use Rattle.cert.specs.Grammar.{undecided_by};
-ghost use Rattle.machine_text.specs.Limits.{state_limit};
-ghost use Rattle.text.specs.Fields.{made_of};
+ghost use Rattle.machine_text.specs.Terms.{state_limit};
+ghost use Rattle.text.specs.Terms.{made_of};
 ghost use Rattle.cert.specs.Kinds.{claim_of};
 
 use backward::Backward;
@@ -67,10 +67,9 @@ pub enum OwnedCertificate {
 }
 
 impl<'a> Certificate<'a> {
-    ghost use Rattle.cert.specs.Claim.{NeverClaim};
+    ghost use Rattle.cert.specs.Claim.{NeverClaim, reason_by};
     ghost use Rattle.cert.specs.Kinds.{claim_of};
     ghost use Rattle.cert.specs.Grammar.{claim_from};
-    ghost use Rattle.cert.specs.Reason.{reason_by};
 
     // The certificate of the parts behind a table of so many states.
     pub(crate) fn read(states: u8, mut parts: Parts<'a>) -> Result<Certificate<'a>, FieldFault>
@@ -188,10 +187,10 @@ impl Certificate<'_> {
 }
 
 impl OwnedCertificate {
-    ghost use Rattle.machine_text.specs.Packed.{Packed};
+    ghost use Rattle.machine_text.specs.Terms.{Packed};
     ghost use Rattle.cert.specs.Claim.{ending_by, shown_by};
     ghost use Rattle.cert.specs.Kinds.{claim_of, owned_claim};
-    ghost use Rattle.cert.specs.Scored.{scored};
+    ghost use Rattle.cert.specs.Certified.{scored};
 
     /// A copy of a certificate.
     pub fn of(alloc: Global, certificate: &Certificate) -> Result<OwnedCertificate, NoMemory>

@@ -1,6 +1,11 @@
-// Finders: what looks for certificates.
+// Finders, which look for certificates, and how what they find becomes a record that is certified.
+ghost use Rattle.std.specs.Prelude.{◌≡◌, IfOk};
+ghost use Rattle.cert.specs.Certified.{Answered, IsCertified, IsShownBy};
+ghost use Rattle.cert.specs.Kinds.{owned_claim, owned_recorded};
+
 use crate::certificate::OwnedCertificate;
-use crate::decided::Decided;
+use crate::judgement::{Decided, Judged};
+use crate::record::OwnedRecord;
 use backward::BackwardFinder;
 use far::FarFinder;
 use kind_evidence::NoMemory;
@@ -13,8 +18,8 @@ use std::alloc::Global;
 /// Looks for a certificate for a table. What `find` gives need not stand; what `find_shown` gives was judged.
 pub trait Finder: Drop {
     ghost use Rattle.std.specs.Prelude.{ℕ, ⊤, Option, IfOk, option_map};
-    ghost use Rattle.machine_text.specs.Packed.{Packed};
-    ghost use Rattle.cert.specs.Asking.{ComesOfClaim};
+    ghost use Rattle.machine_text.specs.Terms.{Packed};
+    ghost use Rattle.cert.specs.Certified.{ComesOfClaim};
     ghost use Rattle.cert.specs.Claim.{Claim};
     ghost use Rattle.cert.specs.Kinds.{owned_claim};
 
@@ -104,5 +109,112 @@ impl Finder for FarFinder {
             )?))),
             None => Ok(None),
         }
+    }
+}
+
+/// A record of the table with the first certificate that is accepted of those that the finders give, asked in
+/// their order; undecided where none does. Each certificate is judged, whatever finder gave it, and none
+/// that is refused or claims nothing is taken. Memory that is refused to a finder or to a judgement is
+/// passed on; then the finders' scratch may have changed.
+pub fn decide<F: Finder>(
+    alloc: Global,
+    finders: &mut [F],
+    t: &Table,
+    budget: u64,
+) -> Result<OwnedRecord, NoMemory>
+    ensures table { IfOk result (λ r. r.table ≡ t.now) }
+    ensures certified { IfOk result (λ r. IsCertified (owned_recorded r)) }
+    ensures order { IfOk result (λ r. Answered (λ f claim. F.gives f t.now budget claim) t.now finders.old
+        (owned_claim r.certificate)) }
+{
+    let decided = decide_judged(alloc, finders, t, budget)?;
+    Ok(decided.record)
+}
+
+/// Decides as `decide` does, and answers what was judged with the record, so that nothing is run or judged twice.
+pub fn decide_judged<F: Finder>(
+    alloc: Global,
+    finders: &mut [F],
+    t: &Table,
+    budget: u64,
+) -> Result<Decided, NoMemory>
+    ensures table { IfOk result (λ d. d.record.table ≡ t.now) }
+    ensures shown { IfOk result (λ d. IsShownBy (owned_recorded d.record) d.judged) }
+    ensures order { IfOk result (λ d. Answered (λ f claim. F.gives f t.now budget claim) t.now finders.old
+        (owned_claim d.record.certificate)) }
+{
+    for finder in finders.iter_mut() {
+        if let Some(decided) = finder.find_shown(alloc, t, budget)? {
+            return Ok(decided);
+        }
+    }
+    Ok(Decided {
+        record: OwnedRecord {
+            table: *t,
+            certificate: OwnedCertificate::Undecided,
+        },
+        judged: Judged {
+            verdict: None,
+            halts_on: None,
+        },
+    })
+}
+
+/// Answers a table by a record of it that is certified, or undecided.
+pub trait Decider {
+    ghost use Rattle.std.specs.Prelude.{◌≡◌, IfOk};
+    ghost use Rattle.machine_text.specs.Terms.{Packed};
+    ghost use Rattle.cert.specs.Certified.{IsCertified, IsShownBy};
+    ghost use Rattle.cert.specs.Claim.{Recorded};
+    ghost use Rattle.cert.specs.Kinds.{owned_recorded};
+
+    /// What it may answer for a table: who takes a record for its answer has to have asked. A decider that
+    /// promises nothing of what it answers may answer anything that is certified.
+    ghost answers: { Self → Packed → Recorded → Type 0 };
+
+    /// A record of the table. After `NoMemory` the decider can be asked again.
+    fn decide(&mut self, alloc: Global, t: &Table) -> Result<OwnedRecord, NoMemory>
+        ensures table { IfOk result (λ r. r.table ≡ t.now) }
+        ensures certified { IfOk result (λ r. IsCertified (owned_recorded r)) }
+        ensures answers { IfOk result (λ r. answers self.old t.now (owned_recorded r)) };
+
+    /// A record as `decide` answers it, with what was judged, so that who takes it needn't judge it again.
+    fn decide_judged(&mut self, alloc: Global, t: &Table) -> Result<Decided, NoMemory>
+        ensures table { IfOk result (λ d. d.record.table ≡ t.now) }
+        ensures shown { IfOk result (λ d. IsShownBy (owned_recorded d.record) d.judged) }
+        ensures answers { IfOk result (λ d. answers self.old t.now (owned_recorded d.record)) };
+}
+
+/// Finders in the order in which they are asked, with the budget that each is given.
+#[derive(Drop)]
+pub struct Finders<F> {
+    /// The finders, the first of which is asked first.
+    pub finders: Vec<F>,
+    /// For how many steps each is asked.
+    pub budget: u64,
+}
+
+impl<F: Finder> Finders<F> {
+    /// Finders in the order in which they are asked, with a budget in steps.
+    pub fn new(finders: Vec<F>, budget: u64) -> Finders<F>
+        ensures finders { result.finders ≡ finders }
+        ensures budget { result.budget ≡ budget }
+    {
+        Finders { finders, budget }
+    }
+}
+
+impl<F: Finder> Decider for Finders<F> {
+    ghost use Rattle.cert.specs.Certified.{Answered};
+
+    /// What comes of asking all of them in their order, each with the whole budget.
+    ghost answers = { λ asked p r. Answered (λ f claim. F.gives f p asked.budget claim) p asked.finders.items r.claim };
+
+    fn decide(&mut self, alloc: Global, t: &Table) -> Result<OwnedRecord, NoMemory> {
+        decide(alloc, &mut self.finders, t, self.budget)
+    }
+
+    fn decide_judged(&mut self, alloc: Global, t: &Table) -> Result<Decided, NoMemory> {
+        decide_judged(alloc, &mut self.finders, t, self.budget)
     }
 }

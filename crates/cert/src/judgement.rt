@@ -1,12 +1,15 @@
-// Whether a record's certificate stands.
-ghost use Rattle.std.specs.Prelude.{◌≡◌, ◌≢◌, ◌⊎◌, Ok, Err, None, Some, OnOk, IfOk, IfErr};
-ghost use Rattle.cert.specs.Claim.{NoClaim, TakesMemory, ending_by, shown_by};
-ghost use Rattle.cert.specs.Certified.{IsCertified, IsRefusedBy, IsPairOf};
-ghost use Rattle.cert.specs.Kinds.{claim_of, recorded};
+// Whether a record's certificate stands, and records that are certified.
+ghost use Rattle.std.specs.Prelude.{◌≡◌, ◌≢◌, ◌⊎◌, Ok, Err, None, Some, OnOk, IfOk, IfErr, MatchOption, IfSome, All, option_map};
+ghost use Rattle.cert.specs.Claim.{NoClaim, TakesMemory, ending_by, shown_by, Claim, Recorded, IsWritable, IsMadeFor, Stands};
+ghost use Rattle.cert.specs.Certified.{IsCertified, IsRefusedBy, IsPairOf, ComesOfClaim, IsPassedOver, ShowsVerdict, IsShownBy, with_score, GetsScore, scored, unscored, without_score};
+ghost use Rattle.cert.specs.Kinds.{claim_of, recorded, owned_claim, owned_recorded};
+ghost use Rattle.machine_text.specs.Terms.{Packed, IsTable, entry_of};
+ghost use Rattle.kind_evidence.specs.Terms.{IsTrueOf, ending_of};
+ghost use Rattle.cert.specs.Grammar.{record_of, record_text};
 
-use crate::certificate::Certificate;
-use crate::record::Record;
-use kind_evidence::{Evidence, Refused, Verdict};
+use crate::certificate::{Certificate, OwnedCertificate};
+use crate::record::{OwnedRecord, Record};
+use kind_evidence::{Evidence, NoMemory, Refused, Verdict};
 use machine_text::{Pair, Table};
 use std::alloc::Global;
 
@@ -96,3 +99,120 @@ fn checked<E: Evidence>(evidence: &E, alloc: Global, t: &Table) -> Result<Judged
         halts_on: None,
     })
 }
+
+/// A record that is certified, with what its certificate shows of the table.
+#[derive(Drop)]
+pub struct Decided {
+    /// The record.
+    pub record: OwnedRecord,
+    /// What it shows: who takes the record needn't judge it again.
+    pub judged: Judged,
+}
+
+impl Decided {
+    ghost use Rattle.kind_evidence.specs.declared.verdicts.Ending.TheVariants.{Never};
+
+    /// What comes of a certificate for a table: it is judged, and taken if it claims something and stands.
+    pub fn by(
+        alloc: Global,
+        t: &Table,
+        certificate: OwnedCertificate,
+    ) -> Result<Option<Decided>, NoMemory>
+        ensures { IfOk result (λ o. ComesOfClaim t.now (Some (owned_claim certificate)) o) }
+    {
+        let record = OwnedRecord {
+            table: *t,
+            certificate,
+        };
+        match judged_of(alloc, &record)? {
+            Some(judged) => Ok(Some(Decided { record, judged })),
+            None => Ok(None),
+        }
+    }
+
+    /// A record by which the table never halts, of a certificate that whoever found it has shown: nothing is judged.
+    pub fn never(t: &Table, certificate: OwnedCertificate) -> Decided
+        requires never { ending_by (owned_claim certificate) ≡ Some Never }
+        requires certified { IsCertified (record { table = t.now; claim = owned_claim certificate }) }
+        ensures { ComesOfClaim t.now (Some (owned_claim certificate)) (Some result) }
+    {
+        Decided {
+            record: OwnedRecord {
+                table: *t,
+                certificate,
+            },
+            judged: Judged {
+                verdict: Some(Verdict::Never),
+                halts_on: None,
+            },
+        }
+    }
+
+    /// Gives the record its table's score, where it says that the table halts: nothing is run.
+    pub fn scored(self) -> Decided
+        requires { IsShownBy (owned_recorded self.record) self.judged }
+        ensures record { owned_recorded result.record ≡ with_score (owned_recorded self.record) }
+        ensures shown { IsShownBy (owned_recorded result.record) result.judged }
+    {
+        Decided {
+            record: OwnedRecord {
+                table: self.record.table,
+                certificate: self.record.certificate.with_score(self.judged.verdict),
+            },
+            judged: self.judged,
+        }
+    }
+}
+
+// What a record shows, if it claims something and that stands.
+fn judged_of(alloc: Global, r: &OwnedRecord) -> Result<Option<Judged>, NoMemory>
+    ensures { IfOk result (λ o. MatchOption o (IsPassedOver r.now.table (Some (owned_claim r.now.certificate)))
+        (λ judged. IsShownBy (owned_recorded r.now) judged
+        × ShowsVerdict r.now.table (Some (owned_claim r.now.certificate)))) }
+{
+    // The parts by their names: the borrow checker's proof has to know of what the record is made.
+    let record = Record {
+        table: r.table,
+        certificate: r.certificate.lent(),
+    };
+    match judge_on(alloc, &record) {
+        Ok(judged) => Ok(judged.verdict.is_some().then_some(judged)),
+        Err(Refused::NotSeen | Refused::NoMemory) => Err(NoMemory),
+        Err(_) => Ok(None),
+    }
+}
+
+/// A claim that stands makes its verdict true of the table.
+pub fn standing_claims_are_true()
+    ensures { (c : Claim) (p : Packed) → IsTable p → Stands c p → IfSome (shown_by c p) (λ v. IsTrueOf v (entry_of p)) }
+{}
+
+/// The numbers of a claim that is certified have at most 64 bits, and its lists and automata are made for the table's states.
+pub fn certified_claims_are_writable()
+    ensures writable { (r : Recorded) → IsCertified r → IsWritable r.claim }
+    ensures made { (r : Recorded) → IsCertified r → IsMadeFor r.claim r.table.states }
+{}
+
+/// Reading the text of a record gives the record again.
+pub fn records_parse_back()
+    ensures { (r : Recorded) → IsTable r.table → IsWritable r.claim → IsMadeFor r.claim r.table.states
+        → record_of (record_text r) ≡ Ok r }
+{}
+
+/// The text of a record is one line: it has no newline.
+pub fn record_texts_are_lines()
+    ensures { (r : Recorded) → IsTable r.table → IsWritable r.claim → All (λ byte. byte ≢ 10) (record_text r) }
+{}
+
+/// A score is no part of how a run ends: a claim ends as its verdict does, also with the table's score or without one,
+/// and shows the same. What is certified stays so with its score, and without.
+pub fn scores_leave_claims()
+    ensures ends { (c : Claim) (p : Packed) → option_map ending_of (shown_by c p) ≡ ending_by c }
+    ensures scored { (p : Packed) (c : Claim) → (ending_by (scored p c) ≡ ending_by c)
+        × (shown_by (scored p c) p ≡ shown_by c p) }
+    ensures unscored { (c : Claim) → ending_by (unscored c) ≡ ending_by c }
+    ensures again { (p : Packed) (c : Claim) → (scored p (scored p c) ≡ scored p c)
+        × (scored p (unscored c) ≡ scored p c) }
+    ensures certified { (r : Recorded) → IsCertified r → IsCertified (with_score r) × IsCertified (without_score r) }
+    ensures found { (r s : Recorded) → GetsScore r s → IsCertified r → s ≡ with_score r }
+{}

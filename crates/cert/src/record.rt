@@ -1,18 +1,21 @@
-// Records, borrowed and owned.
-ghost use Rattle.std.specs.Prelude.{◌≡◌, ◌++◌, take, drop, length, Ok, OnOk, OnErr};
-ghost use Rattle.machine_text.specs.Packed.{IsTable};
+// Records, borrowed and owned, and why a text is no record.
+ghost use Rattle.std.specs.Prelude.{◌≡◌, ◌++◌, take, drop, length, Ok, OnOk, OnErr, IfOk};
+ghost use Rattle.machine_text.specs.Terms.{IsTable, text_of};
 ghost use Rattle.cert.specs.Claim.{IsWritable, IsMadeFor};
 ghost use Rattle.cert.specs.Grammar.{record_of, record_text, record_with};
 ghost use Rattle.cert.specs.Kinds.{read_as, recorded, claim_of};
-ghost use Rattle.text.specs.Fields.{made_of};
+ghost use Rattle.text.specs.Terms.{made_of};
+ghost use Rattle.cert.specs.Certified.{GetsOnes, GetsScore};
 
-use crate::appending::append_table;
 use crate::certificate::{Certificate, OwnedCertificate};
-use crate::laws::records_parse_back;
+use crate::judgement::records_parse_back;
 use crate::limits::MAX_RECORD_BYTES;
-use crate::record_fault::RecordFault;
-use kind_evidence::NoMemory;
-use machine_text::Table;
+use kind_evidence::{NoMemory, Refused};
+use machine_text::{TEXT_BYTES, Table, TextFault};
+use run::HaltsIn;
+use std::alloc::Global;
+use std::error::Error;
+use std::fmt;
 use text::{FieldFault, Parts, next_field};
 
 /// A table with a certificate.
@@ -108,5 +111,118 @@ fn with_certificate(
     match certificate {
         Ok(certificate) => Ok(Record { table, certificate }),
         Err(fault) => Err(RecordFault::from(fault)),
+    }
+}
+
+/// Why a text is no record. The length is judged first, then the table, the kind with the number of its
+/// fields, and each field from left to right.
+#[derive(Clone, Copy, Debug, PartialEq, Eq)]
+pub enum RecordFault {
+    /// What stands before the first space is no table.
+    BadTable(TextFault),
+    /// There is no kind, no such kind, or another number of fields than it has.
+    BadKind,
+    /// A field is no number.
+    BadNumber,
+    /// A field is no list of its kind.
+    BadList,
+    /// The text is longer than `MAX_RECORD_BYTES`.
+    TooLong,
+}
+
+impl RecordFault {
+    ghost use Rattle.cert.specs.Grammar.{record_fault_number};
+
+    /// The refusal number: 301 to 305.
+    pub fn number(&self) -> u16
+        ensures { result ≡ record_fault_number self.now }
+    {
+        match self {
+            RecordFault::BadTable(_) => 301,
+            RecordFault::BadKind => 302,
+            RecordFault::BadNumber => 303,
+            RecordFault::BadList => 304,
+            RecordFault::TooLong => 305,
+        }
+    }
+}
+
+impl fmt::Display for RecordFault {
+    ghost use Rattle.std.specs.Prelude.{Some};
+    ghost use Rattle.cert.specs.Grammar.{record_fault_text};
+
+    ghost output = { λ fault. Some (record_fault_text fault) };
+
+    fn fmt<W: fmt::Write>(&self, f: &mut fmt::Formatter<W>) -> fmt::Result {
+        match self {
+            RecordFault::BadTable(_) => f.write_str("there is no table before the first space"),
+            RecordFault::BadKind => f.write_str("there is no kind of record with these fields"),
+            RecordFault::BadNumber => f.write_str("a field is no number or no side"),
+            RecordFault::BadList => f.write_str("a field is no list of its kind"),
+            RecordFault::TooLong => f.write_str("the record is longer than 65000 bytes"),
+        }
+    }
+}
+
+impl Error for RecordFault {}
+
+impl From<FieldFault> for RecordFault {
+    ghost use Rattle.std.specs.Prelude.{◌≡◌};
+    ghost use Rattle.cert.specs.Grammar.{fault_of_field};
+
+    ghost from_gives = { λ f e. e ≡ fault_of_field f };
+
+    fn from(fault: FieldFault) -> RecordFault {
+        match fault {
+            FieldFault::BadKind => RecordFault::BadKind,
+            FieldFault::BadNumber => RecordFault::BadNumber,
+            FieldFault::BadList => RecordFault::BadList,
+            FieldFault::TooLong => RecordFault::TooLong,
+        }
+    }
+}
+
+/// Appends a table's text. Where memory is refused, `out` is as it was.
+pub fn append_table(t: &Table, out: &mut Vec<u8>) -> Result<(), NoMemory>
+    ensures ok { OnOk result (out.new.items ≡ out.old.items ++ text_of t.now) }
+    ensures err { OnErr result (out.new.items ≡ out.old.items) }
+{
+    let mut buf = [0; TEXT_BYTES];
+    out.extend_from_slice(t.text(&mut buf))
+}
+
+impl<'a> Record<'a> {
+    /// The record, with its table's score where it says that the table halts and that is so; else as it is. Only a
+    /// table that is said to halt without a score is run.
+    pub fn scored(&self, alloc: Global) -> Result<Record<'a>, NoMemory>
+        ensures { IfOk result (λ scored. GetsScore (recorded self.now) (recorded scored)) }
+    {
+        match self.certificate {
+            Certificate::Halts(evidence) => {
+                let scored = with_ones(alloc, &self.table, evidence)?;
+                Ok(Record {
+                    table: self.table,
+                    certificate: Certificate::Halts(scored),
+                })
+            }
+            other => Ok(Record {
+                table: self.table,
+                certificate: other,
+            }),
+        }
+    }
+}
+
+// The number of steps in which a table halts, with its score if it is so.
+fn with_ones(alloc: Global, t: &Table, evidence: HaltsIn) -> Result<HaltsIn, NoMemory>
+    ensures { IfOk result (GetsOnes t.now evidence) }
+{
+    if evidence.ones.is_some() {
+        return Ok(evidence);
+    }
+    match evidence.halted(alloc, t) {
+        Ok(halted) => Ok(evidence.with_ones(halted.ones)),
+        Err(Refused::NoMemory) => Err(NoMemory),
+        Err(_) => Ok(evidence),
     }
 }

@@ -1,6 +1,1 @@
-mod Admitting
-mod Calling
-mod Joining
-mod Keeping
-mod Running
-mod Saving
+mod HostedCommands

@@ -1,28 +1,25 @@
 -- What is done that is asked for: of each command what the function says that is called for it.
 use Rattle.std.specs.Prelude.{◌≡◌, ◌⊎◌, ℕ, List, Option, Some, None, Result}
-use Rattle.machine_text.specs.Packed.{Packed}
-use Rattle.cert.specs.Claim.{Recorded}
-use Rattle.peers.specs.Connections.{Taking}
-use Rattle.wire.specs.Fulfilled.{Answering}
-use Rattle.files.specs.Paths.{SameFile, Shelf}
-use Rattle.cmd_options.specs.Ends.{EndsTold, IsTold}
+use Rattle.machine_text.specs.Terms.{Packed}
+use Rattle.cert.specs.Terms.{Recorded}
+use Rattle.peers.specs.Terms.{Taking}
+use Rattle.wire.specs.Terms.{Answering}
+use Rattle.files.specs.Terms.{SameFile, Shelf}
+use Rattle.cmd_options.specs.Terms.{EndsTold, IsTold}
 use Rattle.cmd_options.specs.declared.ended.Ended.{Ended}
-use Rattle.cmd_options.specs.declared.ledger_file.LedgerFile.{LedgerFile}
+use Rattle.cmd_options.specs.declared.writing.LedgerFile.{LedgerFile}
 use Rattle.cmd_options.specs.declared.options.Beginning.{Beginning}
 use Rattle.cmd_options.specs.declared.options.Listening.{Listening}
 use Rattle.cmd_options.specs.declared.options.Options.{Options}
 use Rattle.cmd_options.specs.declared.options.Options.TheVariants.{Check, Decide, Explain, Show, Tables, Coord, CoordPart, Work, Run, Loop, Retry, Merge, Carry, Mend, Split, Settle, Walk, Join, Look, Draw, Page, Report}
-use Rattle.cmd_options.specs.declared.outcome.Outcome.{Outcome}
-use Rattle.cmd_ledgers.specs.Retry.{AtSomeTime}
-use Rattle.cmd_nodes.specs.Listened.{Traffic}
-use Rattle.find_search.specs.Asked.{known_in}
+use Rattle.cmd_options.specs.declared.ended.Outcome.{Outcome}
+use Rattle.cmd_ledgers.specs.Terms.{AtSomeTime}
+use Rattle.cmd_nodes.specs.Terms.{Traffic}
+use Rattle.find_search.specs.Terms.{known_in}
 use Rattle.cmd_dispatch.specs.declared.host.Host.{Host}
-use Rattle.cmd_dispatch.specs.Ends.{Input, Said, Always, OnceKept, OnceLeaving, OnceSaved}
-use Rattle.cmd_dispatch.specs.Lines.{DoesCheck, DoesDecide, DoesExplain, DoesShow, DoesList, Draws}
-use Rattle.cmd_dispatch.specs.Kept.{ChangesSaved, LeavesUnbegun}
-use Rattle.cmd_dispatch.specs.Ledgers.{Locking, Carries, JoinsAsked, LooksUp, Mends, MergesAsked, ReportsAsked, Retries, Settles, Splits}
-use Rattle.cmd_dispatch.specs.Nodes.{Coordinates, Runs, ServesAsked, ServesPart, WalksBy, Works}
-use Rattle.cmd_dispatch.specs.Pages.{Pages}
+use Rattle.cmd_dispatch.specs.Lines.{Input, Said, Always, OnceKept, OnceLeaving, OnceSaved, DoesCheck, DoesDecide, DoesExplain, DoesShow, DoesList, Draws}
+use Rattle.cmd_dispatch.specs.Nodes.{ChangesSaved, LeavesUnbegun, Coordinates, Runs, ServesAsked, ServesPart, WalksBy, Works}
+use Rattle.cmd_dispatch.specs.Ledgers.{Locking, Carries, JoinsAsked, LooksUp, Mends, MergesAsked, ReportsAsked, Retries, Settles, Splits, Pages}
 
 -- what commands meet: files, by what may be told of two paths, what stands at each, what may come of locking one, and how
 -- what is read of one is known; what deciders may answer, one alone, one that is counted, and one whose answers are saved;

@@ -1,7 +1,4 @@
-pub mod Ends
-pub mod Kept
 pub mod Lines
-pub mod Ledgers
 pub mod Nodes
-pub mod Pages
+pub mod Ledgers
 pub mod Does

@@ -1,33 +1,122 @@
--- Commands that go by lines.
-use Rattle.std.specs.Prelude.{◌≡◌, ◌⊎◌, ℕ, Bool, true, false, Option, Some, None, IfNone, IfSome, Result, Ok, Err}
-use Rattle.machine_text.specs.Packed.{Packed}
-use Rattle.cert.specs.Claim.{Recorded}
-use Rattle.cmd_options.specs.declared.drawing.Drawing.{Drawing}
+-- How a command comes to its end, and commands that go by lines.
+use Rattle.std.specs.Prelude.{◌≡◌, ◌⊎◌, ℕ, List, Option, Result, Ok, Err, Bool, true, false, Some, None, IfNone, IfSome}
+use Rattle.files.specs.Terms.{Shelf, SameFile}
+use Rattle.cmd_options.specs.Terms.{EndsTold}
 use Rattle.cmd_options.specs.declared.ended.Ended.{Ended}
+use Rattle.cmd_options.specs.declared.ended.Ended.TheVariants.{Ledger, NoMemory, Stream}
+use Rattle.cmd_options.specs.declared.ended.Outcome.{Outcome}
+use Rattle.cmd_options.specs.declared.ended.Outcome.TheVariants.{Failed, Accepted}
+use Rattle.cmd_lines.specs.Terms.{EndsSaying, WritesFirst, AnswersFirst, AnswersStream, SaysOfRecord, SaysOfTable, ListsFirst, ListsTables}
+use Rattle.cmd_dispatch.specs.declared.host.Host.{Host}
+use Rattle.machine_text.specs.Terms.{Packed}
+use Rattle.cert.specs.Terms.{Recorded}
+use Rattle.cmd_options.specs.declared.options.Drawing.{Drawing}
 use Rattle.cmd_options.specs.declared.options.Deciding.{Deciding}
 use Rattle.cmd_options.specs.declared.options.Explaining.{Explaining}
 use Rattle.cmd_options.specs.declared.options.Listing.{Listing}
 use Rattle.cmd_options.specs.declared.options.Search.{Search}
-use Rattle.cmd_options.specs.declared.outcome.Outcome.{Outcome}
-use Rattle.cmd_options.specs.declared.outcome.Outcome.TheVariants.{Accepted}
-use Rattle.files.specs.Paths.{SameFile, Shelf}
-use Rattle.cmd_lines.specs.Answer.{SaysOfRecord}
-use Rattle.cmd_lines.specs.Decision.{SaysOfTable}
 use Rattle.cmd_lines.specs.declared.decide.TableText.{TableText}
 use Rattle.cmd_lines.specs.declared.decide.TableText.TheVariants.{AsItCame, Standard}
-use Rattle.cmd_lines.specs.First.{AnswersFirst}
-use Rattle.cmd_lines.specs.Listed.{ListsFirst, ListsTables}
-use Rattle.cmd_lines.specs.Stream.{AnswersStream}
-use Rattle.cmd_explain.specs.Drawn.{SaysDrawn}
-use Rattle.cmd_explain.specs.Explained.{SaysExplained}
-use Rattle.cmd_explain.specs.Seen.{SaysSeen}
-use Rattle.cmd_json.specs.LineObjects.{SaysChecked, SaysDecided, SaysTold}
-use Rattle.cmd_json.specs.Numbered.{AnswersFirstNumbered, AnswersNumbered}
-use Rattle.cmd_show.specs.WholeLines.{EndsInLines}
-use Rattle.cmd_show.specs.Files.{DrawsFiles, DrawsFirstLines}
-use Rattle.cmd_show.specs.One.{EndsPicture}
+use Rattle.cmd_explain.specs.Terms.{SaysDrawn, SaysExplained, SaysSeen}
+use Rattle.cmd_json.specs.Terms.{SaysChecked, SaysDecided, SaysTold, AnswersFirstNumbered, AnswersNumbered}
+use Rattle.cmd_show.specs.Terms.{EndsInLines, DrawsFiles, DrawsFirstLines, EndsPicture}
 use Rattle.system.specs.declared.progress.CountedDecider.{CountedDecider}
-use Rattle.cmd_dispatch.specs.Ends.{Always, Input, Said, EndsLines, TellsLines, SaysLines, WantsRoom, EndsLate}
+
+-- How a command that is called comes to its end, by what it reads and says.
+
+-- what is still to be read of the input, before a command and behind it
+pub record Input : Type 0 where
+  pub read : Option (List ℕ)
+  pub new_read : Option (List ℕ)
+
+abbrev pub input_of : {S H R W E : Type 0} → (R → Option (List ℕ)) → Host S H R W E → Host S H R W E → Input
+input_of remaining old new = record { read = remaining old.input; new_read = remaining new.input }
+
+-- what was said as answers and as faults, before a command and behind it
+pub record Said : Type 0 where
+  pub held : Option (List ℕ)
+  pub new_held : Option (List ℕ)
+  pub faults : Option (List ℕ)
+  pub new_faults : Option (List ℕ)
+
+abbrev pub output_of : {S H R W E : Type 0} → (W → Option (List ℕ)) → (E → Option (List ℕ)) → Host S H R W E
+    → Host S H R W E → Said
+output_of answers faults old new = record {
+  held = answers old.answers;
+  new_held = answers new.answers;
+  faults = faults old.faults;
+  new_faults = faults new.faults;
+}
+
+-- what is said to all lines that are read, and what may be said to the first of them
+abbrev pub ToAll : Type 1
+ToAll = Option (List ℕ) → Option (List ℕ) → Option (List ℕ) → Option (List ℕ) → Outcome → Type 0
+
+abbrev pub ToFirst : Type 1
+ToFirst = Option (List ℕ) → Option (List ℕ) → List ℕ → Type 0
+
+-- a command goes by lines; what ends it early is told by who called it
+abbrev pub EndsLines : ToAll → ToFirst → Input → Said → Result Outcome Ended → Type 0
+EndsLines All First i s (Ok o) = All i.read i.new_read s.held s.new_held o
+EndsLines All First i s (Err e) =
+    WritesFirst (First i.read i.new_read) s.held s.new_held e × ((e ≡ NoMemory) ⊎ (e ≡ Stream))
+
+-- or by itself
+abbrev pub SaysLines : ToAll → ToFirst → Input → Said → Outcome → Type 0
+SaysLines All First i s o =
+    EndsSaying (All i.read i.new_read s.held s.new_held) (First i.read i.new_read) s.held s.new_held o
+
+abbrev pub TellsLines : ToAll → ToFirst → Input → Said → Result Outcome Ended → Type 0
+TellsLines All First i s (Ok o) = SaysLines All First i s o
+TellsLines All First i s (Err e) = ⊥
+
+-- nothing was said
+abbrev pub IsSilent : Said → Type 0
+IsSilent s = (s.new_held ≡ s.held) × (s.new_faults ≡ s.faults)
+
+-- memory was refused before a command began
+abbrev pub WantsRoom : Said → Result Outcome Ended → Type 0
+WantsRoom s ended = (ended ≡ Err NoMemory) × IsSilent s
+
+-- what a command says at its end, once it is no longer told how far it is; where that can't be said, a stream has failed
+abbrev pub EndsLate : (Outcome → Type 0) → Outcome → Type 0
+EndsLate Ends last = (o : Outcome) × Ends o × ((last ≡ o) ⊎ (last ≡ Failed))
+
+-- what a command came to, which is told on lines of its own
+abbrev pub ToldApart : (Result Outcome Ended → Type 0) → Outcome → Type 0
+ToldApart Comes o = (ended : Result Outcome Ended) × (lines new_lines : Option (List ℕ)) × Comes ended
+    × EndsTold ended lines new_lines o
+
+-- or behind what stands there
+abbrev pub ToldBehind : (Result Outcome Ended → Type 0) → Option (List ℕ) → Option (List ℕ) → Outcome → Type 0
+ToldBehind Comes faults new_faults o =
+    (ended : Result Outcome Ended) × Comes ended × EndsTold ended faults new_faults o
+
+-- a command by how it ends; what ends it before it begins leaves no answer
+abbrev pub Once : (Outcome → Type 0) → Said → Result Outcome Ended → Type 0
+Once Ends s (Ok o) = Ends o
+Once Ends s (Err e) = s.new_held ≡ s.held
+
+-- and leaves this
+abbrev pub OnceLeaving : (Outcome → Type 0) → Type 0 → Said → Result Outcome Ended → Type 0
+OnceLeaving Ends Leaves s (Ok o) = Ends o
+OnceLeaving Ends Leaves s (Err e) = (s.new_held ≡ s.held) × Leaves
+
+-- and leaves what stands at each path
+abbrev pub OnceKept : (Outcome → Type 0) → Shelf → Shelf → Said → Result Outcome Ended → Type 0
+OnceKept Ends old new s ended = OnceLeaving Ends (new ≡ old) s ended
+
+-- or, where records that were found can't be saved, ends the command behind its answer
+abbrev pub OnceSaved : (Outcome → Type 0) → Said → Result Outcome Ended → Type 0
+OnceSaved Ends s (Ok o) = Ends o
+OnceSaved Ends s (Err e) = (s.new_held ≡ s.held) ⊎ ((e ≡ Ledger) × ((o : Outcome) × Ends o))
+
+-- a command that always begins
+abbrev pub Always : (Outcome → Type 0) → Result Outcome Ended → Type 0
+Always Ends (Ok o) = Ends o
+Always Ends (Err e) = ⊥
+
+-- Commands that go by lines.
 
 -- `bb check`: whether as JSON, and whether it says why
 abbrev pub DoesCheck : Bool → Bool → Input → Said → Result Outcome Ended → Type 0

@@ -1,4 +1,4 @@
-// Lines as people keep them.
+// Lines as people keep them: carriage returns, blank lines and comments are passed over.
 ghost use Rattle.std.specs.Prelude.{◌≤◌, length};
 
 use std::io::{self, Read};

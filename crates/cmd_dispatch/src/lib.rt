@@ -1,32 +1,19 @@
-//! From the words of a command line to what they ask for, done: `obey` reads the words, by `cmd_words`, and `Host::execute` does
-//! what they ask for, with the finders, the files and the ledger that it uses.
+//! From the words of a command line to what they ask for, done: `obey`. `specs/Does` has all commands, `specs/Lines`
+//! those of lines, `specs/Ledgers` those of ledgers, `specs/Nodes` those of trees.
 #![tactic(auto)]
 
-mod advice;
-mod executing;
-mod folders;
-mod heard;
 mod host;
-mod kept;
-mod late;
-mod ledgers;
+mod ledger_commands;
 mod lenient;
-mod likeness;
-mod lines;
+mod likely_lines;
+mod line_commands;
 mod manner;
-mod named;
-mod nodes;
+mod node_commands;
 mod obeying;
-mod pictures;
-mod reasons;
-mod refusals;
-mod serving;
-mod shared;
-mod sourced;
-mod titles;
-mod tokens;
-mod walks;
-mod working;
+mod refusal_reasons;
+mod streams;
+mod walk_command;
+mod work_command;
 
 pub use host::{Commands, Environment, Host};
 pub use obeying::obey;

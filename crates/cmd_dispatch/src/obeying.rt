@@ -1,17 +1,15 @@
 // From the words of a command line to how it ended.
 ghost use Rattle.std.specs.Prelude.{◌≡◌, IfErr};
-ghost use Rattle.cmd_words.specs.Unread.{EndsUnread};
-ghost use Rattle.cmd_options.specs.Ranges.{AreWithinRanges};
+ghost use Rattle.cmd_words.specs.Terms.{EndsUnread};
+ghost use Rattle.cmd_options.specs.Terms.{AreWithinRanges};
 
-use crate::advice::{Place, advice};
-use crate::heard::Heard;
 use crate::host::{Environment, Host};
 use crate::lenient::Lenient;
+use crate::likely_lines::{Place, advice};
+use crate::line_commands::obeyed_by_source;
 use crate::manner::{Manner, Source};
-use crate::named::Named;
-use crate::reasons::reason_of;
-use crate::shared::Shared;
-use crate::sourced::obeyed_by_source;
+use crate::refusal_reasons::reason_of;
+use crate::streams::{Heard, Named, Shared};
 use cmd_options::{Ended, NoMemory, Outcome};
 use cmd_parts::trunk_path;
 use cmd_words::{CommandLine, LineFault, Source as LinesFrom, command_line};

@@ -1,5 +1,4 @@
 pub mod Explained
-pub mod Seen
-pub mod Drawn
 pub mod Why
 pub mod inside
+pub mod Terms

@@ -1,8 +1,8 @@
 -- What only the code needs.
 use Rattle.std.specs.Prelude.{◌≡◌, ℕ, List, [], ◌∷◌, ◌++◌}
-use Rattle.text.specs.Lines.{BoundedLine}
-use Rattle.cmd_options.specs.declared.outcome.Outcome.{Outcome}
-use Rattle.cmd_explain.specs.Seen.{SaysSeen}
+use Rattle.text.specs.Terms.{BoundedLine}
+use Rattle.cmd_options.specs.declared.ended.Outcome.{Outcome}
+use Rattle.cmd_explain.specs.Explained.{SaysSeen}
 
 -- one who says what is seen in so many steps, and keeps that number
 abbrev pub KeepsSteps : {D : Type 0} → (D → ℕ) → D → BoundedLine → Outcome → D → List ℕ → Type 0

@@ -1,10 +1,8 @@
-// What is told of rules with induction: the rules, the family and the begin, as people write them.
-use crate::exponents::{value_text, value_unless_none};
-use crate::scripts::proof_text;
-use crate::tapes::form_text;
+// What is told of rules with induction, as people write them.
+use crate::forms::{form_text, given_text, is_never, value_text, value_unless_none};
 use kind_evidence::NoMemory;
 use kind_rules::{Form, ProvedRule, Rules, Unpacked};
-use law_induction::Move;
+use law_induction::{Exponent, Exponents, Move};
 use std::alloc::Global;
 
 /// The words for rules with induction.
@@ -86,4 +84,81 @@ fn first_line(alloc: Global, c: &Unpacked) -> Result<String, NoMemory> {
     format!(in alloc;
         "From the blank tape the run comes to the first form of H with{n}{m}{k}{j}:{proof}\n"
     )
+}
+
+// A number of steps.
+fn steps_text(alloc: Global, steps: u128) -> Result<String, NoMemory> {
+    if steps == 0 {
+        return Ok(String::new(alloc));
+    }
+    format!(in alloc; " {steps}")
+}
+
+// The rule that is being proved.
+fn again_text(alloc: Global, b: Exponent, c: Exponent, d: Exponent) -> Result<String, NoMemory> {
+    if is_never(b) && is_never(c) && is_never(d) {
+        return String::from_str(alloc, " ih");
+    }
+    let given = given_text(alloc, &for_same(b, c, d))?;
+    format!(in alloc; " ih{given}")
+}
+
+// The variable a for itself.
+fn for_same(b: Exponent, c: Exponent, d: Exponent) -> Exponents {
+    let a = Exponent {
+        ones: 0,
+        a: 1,
+        b: 0,
+        c: 0,
+        d: 0,
+    };
+    Exponents { a, b, c, d }
+}
+
+// A rule by its number.
+fn use_text(alloc: Global, rule: u32, by: &Exponents) -> Result<String, NoMemory> {
+    let given = given_text(alloc, by)?;
+    format!(in alloc; " x{rule}{given}")
+}
+
+// What is written at a move behind so many steps.
+fn move_text(alloc: Global, steps: u128, x: &Move) -> Result<String, NoMemory> {
+    let before = steps_text(alloc, steps)?;
+    match *x {
+        Move::Steps(_) | Move::Forth(..) | Move::Back(..) => Ok(String::new(alloc)),
+        Move::Turn => format!(in alloc; "{before} t"),
+        Move::Use(rule, by) => {
+            let used = use_text(alloc, rule, &by)?;
+            format!(in alloc; "{before}{used}")
+        }
+        Move::Together(rule, b, c, d) => {
+            let used = use_text(alloc, rule, &for_same(b, c, d))?;
+            format!(in alloc; "{before}{used}")
+        }
+        Move::Again(b, c, d) => {
+            let again = again_text(alloc, b, c, d)?;
+            format!(in alloc; "{before}{again}")
+        }
+    }
+}
+
+// How many steps are still to be written behind a move.
+fn steps_behind(steps: u128, x: &Move) -> u128 {
+    match *x {
+        Move::Steps(more) => steps.saturating_add(u128::from(more)),
+        Move::Turn | Move::Use(..) | Move::Again(..) | Move::Together(..) => 0,
+        Move::Forth(..) | Move::Back(..) => steps,
+    }
+}
+
+/// A proof by one script: its steps and the rules that it uses, each behind a space.
+pub(crate) fn proof_text(alloc: Global, moves: &[Move]) -> Result<String, NoMemory> {
+    let mut text = String::new(alloc);
+    let mut steps: u128 = 0;
+    for x in moves {
+        text.push_str(&move_text(alloc, steps, x)?)?;
+        steps = steps_behind(steps, x);
+    }
+    text.push_str(&steps_text(alloc, steps)?)?;
+    Ok(text)
 }

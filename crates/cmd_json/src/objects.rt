@@ -2,15 +2,13 @@
 ghost use Rattle.std.specs.Prelude.{◌≡◌, ◌++◌, ◌∷◌, [], false, IfOk, OnOk, option_map, string_bytes};
 ghost use Rattle.serde_json.specs.View.{view};
 ghost use Rattle.serde_json.specs.Written.{has_float};
-ghost use Rattle.text.specs.Lines.{BoundedLine};
-ghost use Rattle.cert.specs.Kinds.{read_as};
-ghost use Rattle.cmd_lines.specs.Taken.{lent};
-ghost use Rattle.cmd_json.specs.Ascii.{text_value, words_value};
-ghost use Rattle.cmd_json.specs.Found.{found};
-ghost use Rattle.cmd_json.specs.Objects.{check_object, check_object_of, code_found, code_read, decide_object, decide_object_of, ending_name, explain_object, explain_object_of, kind_read, meaning_found, meaning_read, number_value, object_text, ones_found, record_read, steps_found, ending_steps, read_table_text, verdict_found, verdict_read};
+ghost use Rattle.text.specs.Terms.{BoundedLine};
+ghost use Rattle.cert.specs.Terms.{read_as};
+ghost use Rattle.cmd_lines.specs.Terms.{lent};
+ghost use Rattle.cmd_json.specs.Objects.{text_value, words_value, found, check_object, check_object_of, code_found, code_read, decide_object, decide_object_of, ending_name, explain_object, explain_object_of, kind_read, meaning_found, meaning_read, number_value, object_text, ones_found, record_read, steps_found, ending_steps, read_table_text, verdict_found, verdict_read};
 
-use crate::ascii::{append_ascii, text_value};
-use crate::finding::{Finding, fault_words};
+use crate::form::{append_ascii, text_value};
+use crate::records::{Finding, fault_words};
 use cert::{Record, RecordFault};
 use kind_evidence::{Ending, NoMemory};
 use machine_text::TEXT_BYTES;

@@ -1,15 +1,12 @@
 // `bb explain --json`: records in, an object each out, with what has been shown in words.
 ghost use Rattle.std.specs.Prelude.{◌≡◌, ◌⊎◌, ◌∷◌, [], ◌++◌, List, ℕ, IfErr, IfOk, option_map, string_bytes};
-ghost use Rattle.cert.specs.Kinds.{read_as, recorded};
-ghost use Rattle.cmd_lines.specs.First.{WritesFirst};
-ghost use Rattle.cmd_lines.specs.Taken.{lent};
-ghost use Rattle.cmd_json.specs.Found.{AreWordsFor, Finds, FindsRecord, found, outcome_found};
-ghost use Rattle.cmd_json.specs.LineObjects.{SaysTold};
-ghost use Rattle.cmd_json.specs.Numbered.{AnswersFirstNumbered, AnswersNumbered};
+ghost use Rattle.cert.specs.Terms.{read_as, recorded};
+ghost use Rattle.cmd_lines.specs.Terms.{WritesFirst, lent};
+ghost use Rattle.cmd_json.specs.Objects.{AreWordsFor, Finds, FindsRecord, found, outcome_found, SaysTold, AnswersFirstNumbered, AnswersNumbered};
 
-use crate::finding::{Finding, fault_found, refusal_found, shown};
-use crate::numbered::number_behind;
+use crate::form::number_behind;
 use crate::objects::{append_object, explain_value};
+use crate::records::{Finding, fault_found, refusal_found, shown};
 use cert::{Judged, Record, RecordFault, judge_on, standing_claims_are_true};
 use cmd_explain::words_of;
 use cmd_lines::{PIECE_BYTES, Sayer, read_line, say_lines};
@@ -47,8 +44,7 @@ struct Explainer {
 impl Sayer for Explainer {
     ghost use Rattle.std.specs.Prelude.{◌≡◌};
     ghost use Rattle.cmd_options.specs.declared.ended.Ended.TheVariants.{NoMemory as WantsMemory};
-    ghost use Rattle.cmd_json.specs.LineObjects.{SaysTold};
-    ghost use Rattle.cmd_json.specs.Numbered.{SaysNumbered};
+    ghost use Rattle.cmd_json.specs.Objects.{SaysTold, SaysNumbered};
 
     ghost takes = { λ old line o new said. SaysNumbered SaysTold old.lines line o new.lines said };
 

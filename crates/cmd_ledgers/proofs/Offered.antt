@@ -1,31 +1,23 @@
 -- Lines that are offered one after another, and what is held of them.
 use Rattle.std.proofs.Common.{◌≡◌, inl, inr, ℕ, ◌+◌, ◌-◌, IfOk, true, false, if◌then◌else◌, nat_le, nat_lt, List, [], ◌∷◌, ◌++◌, length, Option, Some, None, Result, Ok, Err, sym, ◌∙◌, ap, subst, refl, arith, length-append}
 use Rattle.std.proofs.lemmas.Bool.Decides.{nat_tests}
-use Rattle.machine_text.specs.Packed.{Packed, IsTable}
-use Rattle.text.specs.Lines.{bounded_line}
-use Rattle.text.specs.Limits.{line_byte_limit}
-use Rattle.cert.specs.Claim.{Recorded}
-use Rattle.cert.specs.Limits.{record_byte_limit}
-use Rattle.cert.specs.Grammar.{record_of}
-use Rattle.cert.specs.declared.record_fault.RecordFault.{RecordFault}
-use Rattle.ledger.specs.Offers.{OfferGives}
-use Rattle.ledger.specs.Contents.{Contents}
-use Rattle.ledger.specs.LedgerText.{HasHeader}
-use Rattle.ledger.specs.Lists.{AreKept, held}
-use Rattle.ledger.specs.declared.taken.Taken.{Taken}
-use Rattle.ledger.specs.declared.taken.Taken.TheVariants.{New, Known, Settled}
+use Rattle.machine_text.specs.Terms.{Packed, IsTable}
+use Rattle.text.specs.Terms.{bounded_line, line_byte_limit}
+use Rattle.cert.specs.Terms.{Recorded, record_byte_limit, record_of}
+use Rattle.cert.specs.declared.record.RecordFault.{RecordFault}
+use Rattle.ledger.specs.Terms.{OfferGives, Contents, HasHeader, AreKept, held}
+use Rattle.ledger.specs.declared.faults.Taken.{Taken}
+use Rattle.ledger.specs.declared.faults.Taken.TheVariants.{New, Known, Settled}
 use Rattle.ledger.specs.declared.faults.OfferFault.{OfferFault}
 use Rattle.ledger.specs.declared.faults.OfferFault.TheVariants.{WrongSize, NotOpen, Refused as IsRefused, NoMemory}
 use Rattle.ledger.proofs.Agreement.{Agree, agree_none, agree_new, agree_settled, new_fit, settling_fit, fit_now, fit_or_known, fit_or_refused}
 use Rattle.ledger.proofs.Feeding.{header_more}
-use Rattle.cmd_ledgers.specs.Reading.{AreFirstBytes, BeginsWithRoot}
-use Rattle.cmd_ledgers.proofs.FirstBytes.{first_behind}
-use Rattle.cmd_lines.specs.Lines.{AreLines}
-use Rattle.cmd_lines.specs.Taken.{AreTakenInTurn}
-use Rattle.cmd_lines.specs.Answer.{read_line}
-use Rattle.cmd_ledgers.specs.Mend.{AreMended, IsMended, records_of_lines, with_read}
-use Rattle.cmd_ledgers.specs.inside.Mending.{IsAnswer, LineMends, MendsBehind, ReadMends, dropped_by}
-use Rattle.cmd_ledgers.specs.declared.mender.Mender.{Mender}
+use Rattle.cmd_ledgers.specs.LedgerReport.{AreFirstBytes, BeginsWithRoot}
+use Rattle.cmd_ledgers.proofs.ReadLedgers.{first_behind}
+use Rattle.cmd_lines.specs.Terms.{AreLines, AreTakenInTurn, read_line}
+use Rattle.cmd_ledgers.specs.Merge.{AreMended, IsMended, records_of_lines, with_read}
+use Rattle.cmd_ledgers.specs.inside.{IsAnswer, LineMends, MendsBehind, ReadMends, dropped_by}
+use Rattle.cmd_ledgers.specs.declared.mend.Mender.{Mender}
 
 -- a line that is too long to be kept is too long for a record
 read_bounded : (line : List ℕ) → read_line (bounded_line line) ≡ record_of line

@@ -1,24 +1,81 @@
-// `bb report`: a ledger in, its report out.
-ghost use Rattle.std.specs.Prelude.{◌≡◌, ◌^◌, ◌-◌, ℕ, List, IfOk, IfErr, OnOk, Ok, Err, Option, Result, false};
+// `bb report`: a ledger in, its report out; and where ledgers are read from.
+ghost use Rattle.std.specs.Prelude.{IfOk, ◌≡◌, ◌^◌, ◌-◌, ℕ, List, IfErr, OnOk, Ok, Err, Option, Result, false};
 ghost use Rattle.std.specs.Io.KnownBytes.{Appends};
-ghost use Rattle.cmd_options.specs.declared.outcome.Outcome.{Outcome as Outcomes};
+ghost use Rattle.cmd_ledgers.specs.Merge.{IsLoaded, IsAt, ReportsFrom, SaysWhy, WritesReport};
+ghost use Rattle.cmd_options.specs.declared.ended.Outcome.{Outcome as Outcomes};
 ghost use Rattle.cmd_options.specs.declared.ended.Ended.{Ended as Ends};
-ghost use Rattle.cmd_options.specs.Ends.{EndsTold, PrintsNothing};
-ghost use Rattle.cmd_ledgers.specs.AtPath.{IsAt};
-ghost use Rattle.cmd_ledgers.specs.LedgerReport.{outcome_by};
-ghost use Rattle.cmd_ledgers.specs.Merge.{IsLoaded};
-ghost use Rattle.cmd_ledgers.specs.Reading.{AreFirstBytes};
-ghost use Rattle.cmd_ledgers.specs.Reporting.{ReportsFrom, SaysWhy, WritesReport};
+ghost use Rattle.cmd_options.specs.Terms.{EndsTold, PrintsNothing};
+ghost use Rattle.cmd_ledgers.specs.LedgerReport.{outcome_by, AreFirstBytes};
 
+use crate::board_report::{ReportForm, write_report};
 use crate::reading::load_from;
-use crate::report_form::{ReportForm, write_report};
-use crate::source::{AtPath, load_source};
 use cmd_options::{Ended, Outcome, Stopped, ended_by, told};
-use files::Files;
+use files::{Files, Opened};
 use kind_evidence::NoMemory;
 use ledger::{Board, Left, Status, Unkept};
 use std::alloc::Global;
-use std::io::{Read, Write};
+use std::io::{self, Read, Write};
+
+/// Where a ledger is read from.
+pub trait LedgerSource {
+    ghost use Rattle.std.specs.Prelude.{List, ℕ, IfOk};
+    ghost use Rattle.cmd_ledgers.specs.LedgerReport.{AreFirstBytes};
+
+    /// What it is read by.
+    type Reader: Read + Drop;
+
+    /// What it may hold.
+    ghost reads: { Self → List ℕ → Type 0 };
+
+    /// Opens it, to be read as far as it goes then.
+    fn open(&self) -> Result<Opened<Self::Reader>, Ended>
+        ensures { IfOk result (λ opened. (text : List ℕ)
+            → AreFirstBytes (Self.Reader.remaining opened.reader) opened.length text → reads self.now text) };
+
+    /// What ends a command of which a read of it fails.
+    fn failed(&self, fault: &io::Error) -> Ended;
+}
+
+// A ledger by its path.
+#[derive(Drop)]
+pub(crate) struct AtPath<'a, H> {
+    pub host: &'a H,
+    pub path: &'a str,
+}
+
+impl<H: Files> LedgerSource for AtPath<'_, H> {
+    ghost use Rattle.cmd_ledgers.specs.Merge.{IsAt};
+
+    type Reader = H::Reader;
+
+    ghost reads = { λ source. IsAt (H.holds source.host.now source.path.now) };
+
+    fn open(&self) -> Result<Opened<H::Reader>, Ended> {
+        match self.host.open_to_end(self.path) {
+            Ok(file) => Ok(file),
+            Err(fault) => Err(self.failed(&fault)),
+        }
+    }
+
+    fn failed(&self, fault: &io::Error) -> Ended {
+        ended_by(fault, Ended::File)
+    }
+}
+
+// The board of a ledger, and what of it wasn't kept.
+pub(crate) fn load_source<S: LedgerSource>(
+    alloc: Global,
+    source: &S,
+) -> Result<(Board, Left), Ended>
+    ensures { IfOk result (λ l. IsLoaded (S.reads source.now) l) }
+{
+    let mut opened = source.open()?;
+    match load_from(alloc, &mut opened.reader, opened.length) {
+        Ok(loaded) => Ok(loaded),
+        Err(Stopped::Failed(fault)) => Err(source.failed(&fault)),
+        Err(Stopped::Ended(ended)) => Err(ended),
+    }
+}
 
 /// Prints the report of the ledger at a path in a form, as far as the file goes when it is opened. With `why`, where
 /// not all of it could be kept, says on `faults` why the first line that isn't kept isn't. What ends the command early

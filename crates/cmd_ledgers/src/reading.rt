@@ -1,22 +1,44 @@
-// A ledger that is read, from its first byte up to a limit.
-ghost use Rattle.std.specs.Prelude.{◌≡◌, ◌≢◌, ◌↔◌, ℕ, ◌+◌, ◌^◌, ◌<◌, ◌≤◌, ◌++◌, List, IfOk, IfErr, IsTrue, OnOk, length, min, take};
+// A ledger that is read, from its first byte up to a limit, and gone on with.
+ghost use Rattle.std.specs.Prelude.{◌≡◌, ◌≢◌, ◌↔◌, ℕ, ◌+◌, ◌^◌, ◌<◌, ◌≤◌, ◌++◌, List, IfOk, IfErr, IsTrue, OnOk, length, min, take, OnErr};
 ghost use Rattle.std.specs.Io.KnownBytes.{Consumes, IsAtEnd};
-ghost use Rattle.text.specs.Lines.{HasNoNewline};
-ghost use Rattle.machine_text.specs.Packed.{entry_of};
-ghost use Rattle.law_tree.specs.Used.{InOrder};
-ghost use Rattle.ledger.specs.Limits.{header_byte_limit};
-ghost use Rattle.ledger.specs.LedgerText.{HasHeader, ReadsIn};
-ghost use Rattle.ledger.specs.Loading.{IsFed};
-ghost use Rattle.cmd_ledgers.specs.Reading.{AreFirstBytes, BeginsWithRoot, EndsBehindHeader, EndsReading, IsLoadedFrom};
+ghost use Rattle.cmd_ledgers.specs.LedgerReport.{ended_by_load, ended_by_merge, AreFirstBytes, BeginsWithRoot, EndsBehindHeader, EndsReading, IsLoadedFrom};
+ghost use Rattle.text.specs.Terms.{HasNoNewline};
+ghost use Rattle.machine_text.specs.Terms.{entry_of};
+ghost use Rattle.law_tree.specs.Terms.{InOrder};
+ghost use Rattle.ledger.specs.Terms.{header_byte_limit, HasHeader, ReadsIn, IsFed};
 ghost use Rattle.cmd_ledgers.specs.inside.{BeginsReading};
+ghost use Rattle.files.specs.Terms.{IsOpenedOn};
+ghost use Rattle.cmd_ledgers.specs.Retry.{MayBeCut, kept_part};
 
-use crate::faults::by_load;
-use cmd_options::{Ended, Stopped};
-use ledger::{Board, Left, Loader, ReadStop, peek_root};
+use cmd_options::{Ended, Stopped, ended_by};
+use files::{Files, Opened};
+use ledger::{Board, Left, LoadFault, Loader, MergeFault, ReadStop, peek_root};
 use machine_text::Table;
 use std::alloc::Global;
 use std::io::{self, Read};
 use text::first_line;
+use wire::LedgerOut;
+
+/// What ends a command whose ledger can't be loaded.
+pub fn by_load(fault: LoadFault) -> Ended
+    ensures { result ≡ ended_by_load fault }
+{
+    match fault {
+        LoadFault::BadHeader => Ended::BadHeader,
+        LoadFault::WrongRoot => Ended::WrongRoot,
+        LoadFault::NoMemory => Ended::NoMemory,
+    }
+}
+
+// Two boards can't be merged.
+pub(crate) fn by_merge(fault: MergeFault) -> Ended
+    ensures { result ≡ ended_by_merge fault }
+{
+    match fault {
+        MergeFault::WrongRoot => Ended::WrongRoot,
+        MergeFault::NoMemory => Ended::NoMemory,
+    }
+}
 
 /// More bytes than a ledger's header has.
 pub const MAX_HEADER_BYTES: usize = 64;
@@ -162,5 +184,43 @@ fn feed_all<R: Read>(
             Err(ReadStop::NoMemory) => Err(Stopped::Ended(Ended::NoMemory)),
         },
         Err(_) => Err(Stopped::Ended(Ended::NoMemory)),
+    }
+}
+
+/// Opens the ledger at a path, which has to be there, to be read before it is gone on with.
+pub fn open_held<H: Files>(host: &H, path: &str) -> Result<Opened<H::Reader>, Ended>
+    ensures { IfOk result (λ held. IsOpenedOn (H.holds host.now path.now)
+        (H.Reader.remaining held.reader) held.length) }
+{
+    match host.open(path) {
+        Ok(held) => Ok(held),
+        Err(fault) => Err(ended_by(&fault, Ended::Ledger)),
+    }
+}
+
+/// The board of what a ledger holds that is gone on with, and what of it wasn't kept.
+pub fn load_held<F: Read + Drop>(alloc: Global, held: Opened<F>) -> Result<(Board, Left), Ended>
+    ensures { IfOk result (λ l. IsLoadedFrom (F.remaining held.reader) held.length l.0 l.1) }
+{
+    let mut held = held;
+    match load_from(alloc, &mut held.reader, held.length) {
+        Ok(loaded) => Ok(loaded),
+        Err(Stopped::Failed(fault)) => Err(ended_by(&fault, Ended::Ledger)),
+        Err(Stopped::Ended(ended)) => Err(ended),
+    }
+}
+
+/// Cuts a ledger to what was kept of it.
+pub fn cut_off<L: LedgerOut>(left: &Left, ledger: &mut L) -> Result<(), Ended>
+    ensures ok { OnOk result (L.text ledger.new ≡ kept_part left.now (L.text ledger.old)) }
+    ensures err { OnErr result (MayBeCut left.now (L.text ledger.old) (L.text ledger.new)) }
+{
+    let cut = match left {
+        Left::Nothing => Ok(()),
+        Left::From { kept, .. } => ledger.cut(*kept),
+    };
+    match cut {
+        Ok(()) => Ok(()),
+        Err(_) => Err(Ended::Ledger),
     }
 }

@@ -1,24 +1,17 @@
-// `bb retry`: the holdouts of a ledger are tried again.
-ghost use Rattle.std.specs.Prelude.{◌≡◌, ◌⊎◌, IfErr, IfOk, List, OnErr, OnOk, Option, Result, Some, ℕ};
-ghost use Rattle.cert.specs.Certified.{IsShownBy};
-ghost use Rattle.cert.specs.Claim.{ending_by};
-ghost use Rattle.cert.specs.Kinds.{recorded};
-ghost use Rattle.ledger.specs.Held.{IsHoldout};
-ghost use Rattle.cmd_options.specs.declared.outcome.Outcome.{Outcome as Outcomes};
+// `bb retry`: the holdouts of a ledger are tried again, and lines are gathered that it gains.
+ghost use Rattle.std.specs.Prelude.{◌≡◌, [], OnErr, OnOk, IfErr, Some, ◌⊎◌, IfOk, List, Option, Result, ℕ};
+ghost use Rattle.cmd_ledgers.specs.Retry.{HasGrown, HasPartOf, KeepsInStep, AtSomeTime, ChangesBy, LeavesRetried, LeavesTried, IsTried, AreRetried, MayTry, LeavesLedger, MayBeCut, kept_part, RetriesAt, RetriesLedger, RetriesWhole};
+ghost use Rattle.wire.specs.Terms.{IsBegun, grown, kept_text, cut_to};
+ghost use Rattle.cert.specs.Terms.{IsShownBy, ending_by, recorded};
+ghost use Rattle.ledger.specs.Terms.{IsHoldout, Contents};
+ghost use Rattle.cmd_options.specs.declared.ended.Outcome.{Outcome as Outcomes};
 ghost use Rattle.cmd_options.specs.declared.ended.Ended.{Ended as Ends};
-ghost use Rattle.cmd_options.specs.Ends.{EndsTold, PrintsNothing};
-ghost use Rattle.files.specs.Paths.{IsKeptBut};
-ghost use Rattle.cmd_ledgers.specs.Gathered.{HasGrown, HasPartOf};
-ghost use Rattle.cmd_ledgers.specs.Retry.{KeepsInStep, AtSomeTime, ChangesBy, LeavesRetried, LeavesTried, IsTried, AreRetried, MayTry};
-ghost use Rattle.cmd_ledgers.specs.GoingOn.{LeavesLedger, MayBeCut, kept_part};
-ghost use Rattle.cmd_ledgers.specs.RetryAt.{RetriesAt, RetriesLedger, RetriesWhole};
-ghost use Rattle.ledger.specs.Contents.{Contents};
-ghost use Rattle.wire.specs.Device.{grown};
+ghost use Rattle.cmd_options.specs.Terms.{EndsTold, PrintsNothing};
+ghost use Rattle.files.specs.Terms.{IsKeptBut};
 
-use crate::gathering::{write_due, write_lines};
-use crate::going_on::{cut_off, load_held, open_held};
+use crate::board_report::AsLines;
 use crate::ledger_report::report_board;
-use crate::report_form::AsLines;
+use crate::reading::{cut_off, load_held, open_held};
 use cert::{Decided, Decider, Judged, Record};
 use cmd_options::{Ended, LedgerFile, Outcome, told};
 use files::{Files, Opened, Progress, ledger_at, lock_ledger};
@@ -27,7 +20,79 @@ use ledger::{Board, Left};
 use machine_text::Table;
 use std::alloc::Global;
 use std::io::{Read, Write};
-use wire::LedgerOut;
+use wire::{LedgerOut, Out, append_all, begin};
+
+// Lines of so many bytes are written.
+const PIECE_BYTES: usize = 4_096;
+
+/// Appends the lines that are gathered to a ledger; then none are.
+pub fn write_lines<L: LedgerOut>(ledger: &mut L, lines: &mut Vec<u8>) -> Result<(), Ended>
+    ensures ok { OnOk result ((L.text ledger.new ≡ grown (L.text ledger.old) lines.old.items)
+        × (lines.new.items ≡ [])) }
+    ensures err { OnErr result (IsBegun (L.text ledger.old) lines.old.items (L.text ledger.new)) }
+{
+    append_to(ledger, lines)?;
+    lines.clear();
+    Ok(())
+}
+
+/// Appends the lines that are gathered to a ledger where that is due, or where they have 4,096 bytes.
+pub fn write_due<L: LedgerOut>(
+    ledger: &mut L,
+    lines: &mut Vec<u8>,
+    is_due: bool,
+) -> Result<(), Ended>
+    ensures whole { OnOk result (grown (L.text ledger.new) lines.new.items
+        ≡ grown (L.text ledger.old) lines.old.items) }
+    ensures grown { OnOk result (HasGrown (L.text ledger.old) (L.text ledger.new)) }
+    ensures err { OnErr result (IsBegun (L.text ledger.old) lines.old.items (L.text ledger.new)) }
+{
+    if is_piece(lines, is_due) {
+        write_lines(ledger, lines)
+    } else {
+        Ok(())
+    }
+}
+
+// Whether lines are to be written.
+fn is_piece(lines: &[u8], is_due: bool) -> bool {
+    is_due || lines.len() >= PIECE_BYTES
+}
+
+/// Carries out the ledger's part of an answer: its cut, and then what is to be appended, whole. A ledger that fails
+/// ends the command.
+pub fn keep_answer<L: LedgerOut>(out: &Out, ledger: &mut L) -> Result<(), Ended>
+    ensures ok { OnOk result (L.text ledger.new ≡ kept_text out.now (L.text ledger.old)) }
+    ensures err { IfErr result (λ e. e ≡ Ended.Ledger) }
+{
+    match begin(out, ledger) {
+        Ok(()) => Ok(()),
+        Err(_) => Err(Ended::Ledger),
+    }
+}
+
+// Cuts a ledger to its first bytes.
+pub(crate) fn cut_to<L: LedgerOut>(ledger: &mut L, len: u64) -> Result<(), Ended>
+    ensures ok { OnOk result (L.text ledger.new ≡ cut_to (Some len) (L.text ledger.old)) }
+    ensures err { IfErr result (λ e. e ≡ Ended.Ledger) }
+{
+    match ledger.cut(len) {
+        Ok(()) => Ok(()),
+        Err(_) => Err(Ended::Ledger),
+    }
+}
+
+// Appends all of the bytes to a ledger.
+pub(crate) fn append_to<L: LedgerOut>(ledger: &mut L, bytes: &[u8]) -> Result<(), Ended>
+    ensures ok { OnOk result (L.text ledger.new ≡ grown (L.text ledger.old) bytes.now) }
+    ensures err { IfErr result (λ e. e ≡ Ended.Ledger) }
+    ensures begun { OnErr result (IsBegun (L.text ledger.old) bytes.now (L.text ledger.new)) }
+{
+    match append_all(ledger, bytes) {
+        Ok(()) => Ok(()),
+        Err(_) => Err(Ended::Ledger),
+    }
+}
 
 /// Cuts a ledger file, which has to be there, to the bytes that are kept of it, asks the decider for each of its
 /// holdouts in the order of their texts, and appends a line for each that is resolved. Then it prints the report:

@@ -1,27 +1,29 @@
--- The first of each table.
-use Rattle.std.proofs.Common.{◌≡◌, ℕ, Bool, true, false, not, cond, List, [], ◌∷◌, ◌++◌, flat_map, map, Option, Some, None, Result, Ok, Err, sym, ap, ◌∙◌, subst, refl, append_assoc, append-nil, inl, inr}
+-- The first of each table in lists of words, columns or records, and how texts are cut into words.
+use Rattle.std.proofs.Common.{◌≡◌, ℕ, Bool, true, false, not, cond, List, [], ◌∷◌, ◌++◌, flat_map, map, Option, Some, None, Result, Ok, Err, sym, ap, ◌∙◌, subst, refl, append_assoc, append-nil, inl, inr, suc, ◌+◌, ◌<◌, ◌≤◌, ltb, length, take, drop, arith}
 use Rattle.std.proofs.lemmas.Bool.{cases_Bool}
 use Rattle.std.specs.Borrow.{Bor}
 use Rattle.std.specs.Str.{IsTrimAscii}
 use Rattle.std.specs.Io.KnownBytes.{Appends}
-use Rattle.std.specs.List.{list_any}
+use Rattle.std.specs.List.{list_any, position_or_len, slice_split, onto_first}
+use Rattle.std.specs.Prelude.{position}
+use Rattle.std.proofs.lemmas.Bool.Decides.{nat_tests}
 use Rattle.indexmap.specs.IndexSet.{insert_key}
-use Rattle.machine_text.specs.Packed.{Packed}
-use Rattle.machine_text.specs.declared.faults.TextFault.{TextFault}
-use Rattle.cert.specs.Claim.{Recorded}
-use Rattle.cert.specs.declared.record_fault.RecordFault.{RecordFault}
+use Rattle.machine_text.specs.Terms.{Packed}
+use Rattle.machine_text.specs.declared.grammar.TextFault.{TextFault}
+use Rattle.cert.specs.Terms.{Recorded}
+use Rattle.cert.specs.declared.record.RecordFault.{RecordFault}
 use Rattle.cmd_lines.specs.Answer.{read_line}
 use Rattle.cmd_options.specs.declared.ended.Ended.{Ended}
-use Rattle.cmd_options.specs.declared.outcome.Outcome.{Outcome}
-use Rattle.cmd_options.specs.declared.outcome.Outcome.TheVariants.{Accepted}
-use Rattle.cmd_lines.specs.First.{IsSaidToFirst, WritesFirst}
-use Rattle.cmd_lines.specs.Said.{AreTakenBy, TakesStream, first_fault}
-use Rattle.cmd_lines.specs.Taken.{lent}
+use Rattle.cmd_options.specs.declared.ended.Outcome.{Outcome}
+use Rattle.cmd_options.specs.declared.ended.Outcome.TheVariants.{Accepted}
+use Rattle.cmd_lines.specs.Stream.{IsSaidToFirst, WritesFirst, AreTakenBy, TakesStream, first_fault}
+use Rattle.cmd_lines.specs.Lines.{lent}
 use Rattle.cmd_options.specs.declared.options.Listing.{Listing}
-use Rattle.cmd_lines.specs.Listed.{Found, alone, found_by, tables_of, first_ones, found_line, same_packed, IsPrinted, ArePrinted, AreFoundIn, IsFoundIn, ListsFirst, ListsTables}
-use Rattle.cmd_lines.specs.Words.{columns, words, is_row, table_in, tables_in, tables_of_column, tables_of_columns, tables_of_line, tables_of_word}
-use Rattle.cmd_lines.proofs.Early.{said_so, stream_first}
-use Rattle.cmd_lines.specs.inside.Listing.{PrintsFirst, ListsFor, ListsLine, columns_left, words_left, left_tables}
+use Rattle.cmd_lines.specs.Listed.{Found, alone, found_by, tables_of, first_ones, found_line, same_packed, IsPrinted, ArePrinted, AreFoundIn, IsFoundIn, ListsFirst, ListsTables, columns, words, is_row, table_in, tables_in, tables_of_column, tables_of_columns, tables_of_line, tables_of_word}
+use Rattle.cmd_lines.proofs.AnsweredPieces.{said_so, stream_first}
+use Rattle.cmd_lines.specs.inside.{PrintsFirst, ListsFor, ListsLine, columns_left, words_left, left_tables}
+
+-- The first of each table.
 
 -- what is found of a table that came before, and of one that didn't
 first_came : (came : List Packed) (f : Found) (found : List Found) → list_any (same_packed f.table) came ≡ true → first_ones came (f ∷ found) ≡ first_ones came found
@@ -149,10 +151,6 @@ pub came_not : (came : List Packed) (t : Packed) (first : Bool) → first ≡ no
 came_not came t first is some = by_test (list_any (same_packed t) came) (λ held. absurd (let e : true ≡ false = sym some ∙ (is ∙ ap not held) in cc)) (λ missed. missed)
 
 -- what is left of a line
-pub line_left : (o : Option (Bor (List ℕ))) → tables_of_line (lent o) ≡ left_tables o
-line_left None = refl
-line_left (Some text) = refl
-
 left_words : (o : Option (Bor (List ℕ))) → flat_map tables_of_word (words_left o) ≡ left_tables o
 left_words None = refl
 left_words (Some text) = refl
@@ -249,3 +247,47 @@ found_read records o line trimmed r kept is trim read =
     subst (λ (b : Bool). IsFoundIn b (lent o) (found_by r (tables_of_line (lent o)))) (sym kept)
     (subst (λ (k : Option (Bor (List ℕ))). IsFoundIn true (lent k) (found_by r (tables_of_line (lent k)))) (sym is)
     (Some trimmed, (trimmed, refl, trim), ap (λ (k : Result Recorded RecordFault). found_by k (tables_of_line (Some line.now))) (sym read)))
+
+-- Texts that are cut into words.
+module _ (p : ℕ → Bool) where
+  -- at the first byte that cuts, where there is one
+  split_at : (xs : List ℕ) → position_or_len p xs < length xs → slice_split p xs ≡ take (position_or_len p xs) xs ∷ slice_split p (drop (position_or_len p xs + 1) xs)
+  split_at [] below = absurd (omega arith)
+  split_at (x ∷ xs) below =
+      elim (p x) as (λ v. cond (not v) (1 + position_or_len p xs) 0 < suc (length xs)
+      → cond v ([] ∷ slice_split p xs) (onto_first x (slice_split p xs)) ≡ take (cond (not v) (1 + position_or_len p xs) 0) (x ∷ xs) ∷ slice_split p (drop (cond (not v) (1 + position_or_len p xs) 0 + 1) (x ∷ xs))) [
+        | true ↦ λ below. refl
+        | false ↦ λ below.
+            let one : suc (position_or_len p xs) ≡ 1 + position_or_len p xs = omega arith in
+            let two : suc (position_or_len p xs + 1) ≡ 1 + position_or_len p xs + 1 = omega arith in
+            ap (onto_first x) (split_at xs (omega arith))
+            ∙ (ap (λ i. take i (x ∷ xs) ∷ slice_split p (drop (position_or_len p xs + 1) xs)) one
+            ∙ ap (λ i. take (1 + position_or_len p xs) (x ∷ xs) ∷ slice_split p (drop i (x ∷ xs))) two)
+      ] below
+
+  split_none : (xs : List ℕ) → length xs ≤ position_or_len p xs → slice_split p xs ≡ xs ∷ []
+  split_none [] past = refl
+  split_none (x ∷ xs) past =
+      elim (p x) as (λ v. suc (length xs) ≤ cond (not v) (1 + position_or_len p xs) 0 → cond v ([] ∷ slice_split p xs) (onto_first x (slice_split p xs)) ≡ (x ∷ xs) ∷ []) [
+        | true ↦ λ past. absurd (omega arith)
+        | false ↦ λ past. ap (onto_first x) (split_none xs (omega arith))
+      ] past
+
+  pub cut_found : (xs : List ℕ) (at : ℕ) → position p xs ≡ Some at → slice_split p xs ≡ take at xs ∷ slice_split p (drop (at + 1) xs)
+  cut_found xs at found =
+      elim (ltb (position_or_len p xs) (length xs)) as (λ b. ltb (position_or_len p xs) (length xs) ≡ b → cond b (Some (position_or_len p xs)) None ≡ Some at → slice_split p xs ≡ take at xs ∷ slice_split p (drop (at + 1) xs)) [
+        | true ↦ λ is found.
+            let same : position_or_len p xs ≡ at = cc in
+            let below : position_or_len p xs < length xs = grind (arith, nat_tests) in
+            split_at xs below ∙ ap (λ i. take i xs ∷ slice_split p (drop (i + 1) xs)) same
+        | false ↦ λ is found. absurd (cc)
+      ] refl found
+
+  pub cut_missing : (xs : List ℕ) → position p xs ≡ None → slice_split p xs ≡ xs ∷ []
+  cut_missing xs missing =
+      elim (ltb (position_or_len p xs) (length xs)) as (λ b. ltb (position_or_len p xs) (length xs) ≡ b → cond b (Some (position_or_len p xs)) None ≡ None → slice_split p xs ≡ xs ∷ []) [
+        | true ↦ λ is missing. absurd (cc)
+        | false ↦ λ is missing.
+            let past : length xs ≤ position_or_len p xs = grind (arith, nat_tests) in
+            split_none xs past
+      ] refl missing

@@ -1,11 +1,5 @@
-pub mod Answering
-pub mod Keeping
-pub mod Kept
-pub mod Taking
-pub mod Pieces
-pub mod Early
+pub mod AnsweredLines
+pub mod AnsweredPieces
 pub mod Firsts
-pub mod Cutting
-pub mod Naming
+pub mod ChangedTables
 pub mod Unchanged
-pub mod Changing

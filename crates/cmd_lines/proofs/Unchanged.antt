@@ -2,18 +2,16 @@
 use Rattle.std.proofs.Common.{◌≡◌, ℕ, zero, suc, ◌+◌, ◌-◌, ◌<◌, ◌≤◌, Bool, false, cond, Option, Some, None, sym, ◌∙◌, ap, subst, refl, inl, inr, arith}
 use Rattle.std.proofs.lemmas.Bool.{cases_lt}
 use Rattle.std.proofs.lemmas.Option.{same_Some}
-use Rattle.machine_text.specs.declared.transition.Sym.{Sym}
-use Rattle.machine_text.specs.declared.transition.Sym.TheVariants.{Zero}
-use Rattle.machine_text.specs.declared.transition.Entry.{Entry}
-use Rattle.machine_text.specs.Packed.{Packed, IsTable, entry_of}
+use Rattle.machine_text.specs.declared.table.Sym.{Sym}
+use Rattle.machine_text.specs.declared.table.Sym.TheVariants.{Zero}
+use Rattle.machine_text.specs.declared.table.Entry.{Entry}
+use Rattle.machine_text.specs.Terms.{Packed, IsTable, entry_of}
 use Rattle.machine_text.proofs.Tables.{same_table}
-use Rattle.law_turing.specs.Machine.{Machine}
-use Rattle.law_turing.specs.Mirror.{mirrored}
-use Rattle.law_turing.specs.Run.{Config, after}
+use Rattle.law_turing.specs.Terms.{Machine, mirrored, Config, after}
 use Rattle.law_turing.proofs.Renaming.{Carried}
-use Rattle.law_turing.proofs.Simulation.{Alike, alike_some}
-use Rattle.cmd_lines.specs.Normal.{StaysBelow, IsInRunOrder, named_entry, IsRenamed, moves_left, facing_right, IsNormalForm, IsInNormalForm}
-use Rattle.cmd_lines.proofs.Naming.{alike_back, alike_times, stays_below}
+use Rattle.law_turing.proofs.RunLaws.{Alike, alike_some}
+use Rattle.cmd_lines.specs.Listed.{StaysBelow, IsInRunOrder, named_entry, IsRenamed, moves_left, facing_right, IsNormalForm, IsInNormalForm}
+use Rattle.cmd_lines.proofs.ChangedTables.{alike_back, alike_times, stays_below}
 
 -- names that rise from a number on, and not below it, are no less than what they name
 rises : (n : ℕ) (name : ℕ → ℕ) → ((q : ℕ) → n ≤ q → n ≤ name q) → ((p q : ℕ) → n ≤ p → p < q → name p < name q) → (k : ℕ) → n + k ≤ name (n + k)

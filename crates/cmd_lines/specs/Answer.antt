@@ -1,23 +1,24 @@
--- The answer to a line: what is printed for what its record's certificate shows, or for why it is refused.
+-- The answer to a line.
 use Rattle.std.specs.Prelude.{◌≡◌, ℕ, List, [], ◌++◌, Option, Some, None, IfSome, Result, Ok, Err, codes, decimal}
-use Rattle.machine_text.specs.Packed.{entry_of}
-use Rattle.machine_text.specs.Text.{text_of}
-use Rattle.machine_text.specs.Fault as text
-use Rattle.machine_text.specs.declared.faults.TextFault.{TextFault}
+use Rattle.machine_text.specs.Terms.{entry_of, Packed, text_of, table_of}
+use Rattle.machine_text.specs.Text as text
+use Rattle.machine_text.specs.declared.grammar.TextFault.{TextFault}
 use Rattle.kind_evidence.specs.declared.verdicts.Verdict.{Verdict}
 use Rattle.kind_evidence.specs.declared.verdicts.Verdict.TheVariants.{Halts, Never}
 use Rattle.kind_evidence.specs.declared.verdicts.Refused.{Refused as Refusal}
-use Rattle.cert.specs.Claim.{Recorded, score_by, shown_by}
-use Rattle.cert.specs.Certified.{IsCertified, IsRefusedBy}
-use Rattle.kind_evidence.specs.Verdict.{IsTrueOf}
+use Rattle.cert.specs.Terms.{Recorded, score_by, shown_by, IsCertified, IsRefusedBy, record_of, claim_text, record_text}
+use Rattle.kind_evidence.specs.Terms.{IsTrueOf}
 use Rattle.kind_evidence.specs.Verdict as verdict
-use Rattle.cert.specs.Grammar.{record_of}
 use Rattle.cert.specs.declared.judgement.Judged.{Judged}
-use Rattle.cert.specs.Fault as record_fault
-use Rattle.cert.specs.declared.record_fault.RecordFault.{RecordFault}
-use Rattle.cert.specs.declared.record_fault.RecordFault.TheVariants.{BadTable, BadKind, BadNumber, BadList, TooLong}
-use Rattle.cmd_options.specs.declared.outcome.Outcome.{Outcome}
-use Rattle.cmd_options.specs.declared.outcome.Outcome.TheVariants.{Accepted, Refused, BadLine, NoMemory, Failed}
+use Rattle.cert.specs.Grammar as record_fault
+use Rattle.cert.specs.declared.record.RecordFault.{RecordFault}
+use Rattle.cert.specs.declared.record.RecordFault.TheVariants.{BadTable, BadKind, BadNumber, BadList, TooLong}
+use Rattle.cmd_options.specs.declared.ended.Outcome.{Outcome}
+use Rattle.cmd_options.specs.declared.ended.Outcome.TheVariants.{Accepted, Refused, BadLine, NoMemory, Failed}
+use Rattle.cmd_lines.specs.declared.decide.TableText.{TableText}
+use Rattle.cmd_lines.specs.declared.decide.TableText.TheVariants.{AsItCame, Standard}
+
+-- The answer to a line: what is printed for what its record's certificate shows, or for why it is refused.
 
 -- what is said of a table, behind it
 abbrev pub verdict_text : Option Verdict → List ℕ
@@ -81,3 +82,46 @@ Answers (Err f) o answer = (o ≡ Refused) × (answer ≡ fault_text f)
 -- what `bb check` says to a line
 abbrev pub SaysOfRecord : Option (List ℕ) → Outcome → List ℕ → Type 0
 SaysOfRecord line o answer = Answers (read_line line) o answer
+
+-- What is printed for a line with a table: a record of it that is certified, or the fault of its text.
+
+-- how a record is printed of a table that came so: its text, or the table as it came, and behind it what follows the
+-- table in that text
+abbrev pub printed : TableText → List ℕ → Recorded → List ℕ
+printed Standard came r = record_text r
+printed AsItCame came r = came ++ codes " " ++ claim_text r.claim
+
+-- a record of the table that the decider answers, whose certificate stands within the limits, or claims nothing
+pub record DecidesTable (Answers : Packed → Recorded → Type 0) (text : TableText) (came : List ℕ) (t : Packed)
+    (o : Outcome) (answer : List ℕ) : Type 0 where
+  pub decided : Recorded
+  pub asked : Answers t decided
+  pub table : decided.table ≡ t
+  pub certified : IsCertified decided
+  pub accepted : o ≡ Accepted
+  pub is : answer ≡ printed text came decided
+
+abbrev pub table_read : Result Packed TextFault → Result Packed RecordFault
+table_read (Ok t) = Ok t
+table_read (Err f) = Err (BadTable f)
+
+-- what is read of a line, which is none where it was too long
+abbrev pub read_line_table : Option (List ℕ) → Result Packed RecordFault
+read_line_table None = Err TooLong
+read_line_table (Some line) = table_read (table_of line)
+
+-- what is printed where this is read of a text that came, by what the decider answers
+abbrev pub DecidesCame : (Packed → Recorded → Type 0) → TableText → List ℕ → Result Packed RecordFault → Outcome
+    → List ℕ → Type 0
+DecidesCame Answers text came (Ok t) o answer = DecidesTable Answers text came t o answer
+DecidesCame Answers text came (Err f) o answer = (o ≡ Refused) × (answer ≡ fault_text f)
+
+-- what is printed for a line, which is none where it was too long
+abbrev pub Decides : (Packed → Recorded → Type 0) → TableText → Option (List ℕ) → Outcome → List ℕ → Type 0
+Decides Answers text None o answer = (o ≡ Refused) × (answer ≡ fault_text TooLong)
+Decides Answers text (Some line) o answer = DecidesCame Answers text line (table_read (table_of line)) o answer
+
+-- what `bb decide` says to a line, where so the decider answers as it stands then
+abbrev pub SaysOfTable : {D : Type 0} → (D → Packed → Recorded → Type 0) → TableText → Option (List ℕ) → Outcome
+    → List ℕ → Type 0
+SaysOfTable {D} Answers text line o answer = (decider : D) × Decides (Answers decider) text line o answer

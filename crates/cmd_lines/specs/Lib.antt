@@ -1,11 +1,6 @@
 pub mod Answer
-pub mod Decision
 pub mod Stream
 pub mod Lines
-pub mod Taken
-pub mod Said
-pub mod First
 pub mod inside
-pub mod Words
-pub mod Normal
 pub mod Listed
+pub mod Terms

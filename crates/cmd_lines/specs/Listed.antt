@@ -1,22 +1,137 @@
--- What `bb tables` says to a text: the tables in it, as they are printed, each one where it comes first, a line each; or,
--- where records are kept, the records among its lines in place of their tables.
-use Rattle.std.specs.Prelude.{◌≡◌, ℕ, ◌&&◌, nat_eq, min, Bool, true, false, List, [], ◌∷◌, ◌++◌, Option, Some, None, Result, Ok, Err, cond, flat_map, map}
-use Rattle.std.specs.List.{list_any}
+-- The tables that stand in a text of any form, their normal form, and what `bb tables` says to the text.
+use Rattle.std.specs.Prelude.{◌≡◌, ℕ, suc, ◌<◌, ◌≤◌, Bool, true, false, cond, Option, Some, None, ◌==◌, ◌&&◌, ◌||◌, nat_le, not, List, [], ◌∷◌, ◌++◌, length, flat_map, Result, Ok, Err, nat_eq, min, map}
+use Rattle.std.specs.List.{slice_split, list_any}
 use Rattle.std.specs.Cmp.Lexicographic.{pointwise}
 use Rattle.std.specs.Io.KnownBytes.{Consumes, Appends, IsAtEnd}
 use Rattle.std.specs.Str.{IsTrimAscii}
-use Rattle.machine_text.specs.Packed.{Packed}
-use Rattle.machine_text.specs.Text.{text_of}
-use Rattle.text.specs.Lines.{BoundedLine, bounded_line}
-use Rattle.cert.specs.Claim.{Claim, Recorded}
-use Rattle.cert.specs.Grammar.{record_text}
-use Rattle.cert.specs.declared.record_fault.RecordFault.{RecordFault}
+use Rattle.machine_text.specs.declared.table.Sym.{Sym}
+use Rattle.machine_text.specs.declared.table.Sym.TheVariants.{Zero}
+use Rattle.machine_text.specs.declared.table.Dir.{Dir}
+use Rattle.machine_text.specs.declared.table.Dir.TheVariants.{L, R}
+use Rattle.machine_text.specs.declared.table.Entry.{Entry}
+use Rattle.machine_text.specs.Terms.{Packed, entry_of, table_of, text_of}
+use Rattle.law_turing.specs.Terms.{Machine, mirrored, Config, after}
+use Rattle.machine_text.specs.declared.grammar.TextFault.{TextFault}
+use Rattle.text.specs.Terms.{BoundedLine, bounded_line}
+use Rattle.cert.specs.Terms.{Claim, Recorded, record_text}
+use Rattle.cert.specs.declared.record.RecordFault.{RecordFault}
 use Rattle.cmd_lines.specs.Lines.{AreFirstLines, AreLines}
 use Rattle.cmd_lines.specs.Answer.{read_line}
-use Rattle.run.specs.Limits.{run_step_limit}
+use Rattle.run.specs.Terms.{run_step_limit}
 use Rattle.cmd_options.specs.declared.options.Listing.{Listing}
-use Rattle.cmd_lines.specs.Normal.{IsNormalForm}
-use Rattle.cmd_lines.specs.Words.{tables_of_line}
+
+-- The normal form of a table by its run: mirrored where its first move is to the left, and its states named in the order
+-- in which the run comes to them.
+
+-- at the times before k the run is in states below low
+abbrev pub StaysBelow : Machine → ℕ → ℕ → Type 0
+StaysBelow m k low = (i : ℕ) (c : Config) → i < k → after m i ≡ Some c → c.state < low
+
+-- the run comes to the state q in at most so many steps, and is in states below low before
+pub record ComesFirstTo (m : Machine) (steps low q : ℕ) : Type 0 where
+  pub time : ℕ
+  pub within : time ≤ steps
+  pub at : Config
+  pub is : after m time ≡ Some at
+  pub state : at.state ≡ q
+  pub before : StaysBelow m time low
+
+-- in so many steps the run comes to the states below `named`, to each one after those below it, and to no other
+pub record IsInRunOrder (m : Machine) (steps named : ℕ) : Type 0 where
+  pub each : (q : ℕ) → q < named → ComesFirstTo m steps q q
+  pub only : StaysBelow m (suc steps) named
+
+-- the entry with another name for its next state
+abbrev pub named_entry : (ℕ → ℕ) → Option Entry → Option Entry
+named_entry name None = None
+named_entry name (Some e) = Some (record { write = e.write; dir = e.dir; next = record { 0 = name e.next.0 } })
+
+-- the machine with other names for its states: A stays A, and the states that aren't named below `named` stay in their order
+pub record IsRenamed (named : ℕ) (m new : Machine) : Type 0 where
+  pub name : ℕ → ℕ
+  pub old : ℕ → ℕ
+  pub old_of_name : (q : ℕ) → old (name q) ≡ q
+  pub name_of_old : (q : ℕ) → name (old q) ≡ q
+  pub first : name 0 ≡ 0
+  pub entries : (q : ℕ) (s : Sym) → new (name q) s ≡ named_entry name (m q s)
+  pub others : (p q : ℕ) → p < q → named ≤ name p → named ≤ name q → name p < name q
+
+-- whether there is an entry that moves to the left
+abbrev pub is_left : Dir → Bool
+is_left L = true
+is_left R = false
+
+abbrev pub moves_left : Option Entry → Bool
+moves_left None = false
+moves_left (Some e) = is_left e.dir
+
+-- the machine, mirrored where its first move is to the left
+abbrev pub facing_right : Machine → Machine
+facing_right m = cond (moves_left (m 0 Zero)) (mirrored m) m
+
+-- new is the normal form of t by so many steps of its run
+pub record IsNormalForm (steps : ℕ) (t new : Packed) : Type 0 where
+  pub named : ℕ
+  pub states : new.states ≡ t.states
+  pub renamed : IsRenamed named (facing_right (entry_of t)) (entry_of new)
+  pub in_order : IsInRunOrder (entry_of new) steps named
+
+-- t is in normal form by so many steps: its first move isn't to the left, and its run comes to its states in their order
+pub record IsInNormalForm (steps : ℕ) (t : Packed) : Type 0 where
+  pub right : moves_left (entry_of t 0 Zero) ≡ false
+  pub named : ℕ
+  pub in_order : IsInRunOrder (entry_of t) steps named
+
+-- The tables that stand in a text of any form: its words that are tables, and the columns of words with commas. Bytes are their
+-- ASCII codes.
+
+-- a comma, which stands between the columns of lists
+abbrev pub is_comma : ℕ → Bool
+is_comma b = b == 44
+
+-- a byte of which tables are made, or one that would make a word of them another: a digit, a capital letter, `-` (45), `_` (95),
+-- or a comma
+abbrev pub is_word_byte : ℕ → Bool
+is_word_byte b = (nat_le 48 b && nat_le b 57) || (nat_le 65 b && nat_le b 90) || b == 45 || b == 95 || is_comma b
+
+-- the words of a text: what stands between bytes that aren't those of a word
+unfoldable pub words : List ℕ → List (List ℕ)
+words text = slice_split (λ b. not (is_word_byte b)) text
+
+-- and the columns of a word: what stands between its commas
+unfoldable pub columns : List ℕ → List (List ℕ)
+columns word = slice_split is_comma word
+
+-- the table of a column, if it is one
+abbrev pub table_in : Result Packed TextFault → List Packed
+table_in (Ok t) = t ∷ []
+table_in (Err f) = []
+
+-- whether a column is as long as a row of a table. Rows with commas between them are no tables of one state
+abbrev pub is_row : List ℕ → Bool
+is_row column = length column == 6
+
+abbrev pub tables_of_column : Bool → List ℕ → List Packed
+tables_of_column is_behind_row column = cond (is_behind_row && is_row column) [] (table_in (table_of column))
+
+abbrev pub tables_of_columns : Bool → List (List ℕ) → List Packed
+tables_of_columns is_behind_row [] = []
+tables_of_columns is_behind_row (column ∷ others) =
+    tables_of_column is_behind_row column ++ tables_of_columns (is_row column) others
+
+abbrev pub tables_of_word : List ℕ → List Packed
+tables_of_word word = tables_of_columns false (columns word)
+
+abbrev pub tables_in : List ℕ → List Packed
+tables_in text = flat_map tables_of_word (words text)
+
+-- those of a line, which is none where it is too long
+abbrev pub tables_of_line : Option (List ℕ) → List Packed
+tables_of_line None = []
+tables_of_line (Some line) = tables_in line
+
+-- What `bb tables` says to a text: the tables in it, as they are printed, each one where it comes first, a line each; or,
+-- where records are kept, the records among its lines in place of their tables.
 
 -- whether two tables are one
 abbrev pub same_packed : Packed → Packed → Bool

@@ -1,11 +1,9 @@
 // The answer to a line: what is printed for it, and whether it was accepted.
 ghost use Rattle.std.specs.Prelude.{◌≡◌, ◌∷◌, [], ◌++◌, List, ℕ, decimal, OnOk, IfOk, IfSome};
-ghost use Rattle.machine_text.specs.Text.{text_of};
-ghost use Rattle.cert.specs.Certified.{IsShownBy};
-ghost use Rattle.cert.specs.Claim.{score_by};
-ghost use Rattle.cert.specs.Kinds.{recorded, read_as};
+ghost use Rattle.machine_text.specs.Terms.{text_of};
+ghost use Rattle.cert.specs.Terms.{IsShownBy, score_by, recorded, read_as};
 ghost use Rattle.cmd_lines.specs.Answer.{Answers, AnswersRecord, outcome_shown, ones_text, read_line, verdict_text, text_fault_text, fault_text};
-ghost use Rattle.cmd_lines.specs.Taken.{lent};
+ghost use Rattle.cmd_lines.specs.Lines.{lent};
 
 use cert::{Judged, Record, RecordFault, append_table, judge_on, standing_claims_are_true};
 use cmd_options::Outcome;

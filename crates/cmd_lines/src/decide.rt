@@ -1,14 +1,13 @@
 // `bb decide`: tables in, records out.
 ghost use Rattle.std.specs.Prelude.{◌≡◌, ◌⊎◌, ◌∷◌, [], ◌++◌, List, ℕ, IfErr, IfOk, OnOk};
-ghost use Rattle.machine_text.specs.Text.{table_of};
-ghost use Rattle.cert.specs.Kinds.{recorded};
-ghost use Rattle.cmd_lines.specs.Taken.{lent};
-ghost use Rattle.cmd_lines.specs.Decision.{Decides, DecidesCame, DecidesTable, SaysOfTable, printed, table_read};
-ghost use Rattle.cmd_lines.specs.First.{AnswersFirst, EndsSaying, WritesFirst};
-ghost use Rattle.cmd_lines.specs.Stream.{AnswersStream};
+ghost use Rattle.machine_text.specs.Terms.{table_of};
+ghost use Rattle.cert.specs.Terms.{recorded};
+ghost use Rattle.cmd_lines.specs.Lines.{lent};
+ghost use Rattle.cmd_lines.specs.Answer.{Decides, DecidesCame, DecidesTable, SaysOfTable, printed, table_read};
+ghost use Rattle.cmd_lines.specs.Stream.{AnswersFirst, EndsSaying, WritesFirst, AnswersStream};
 
 use crate::answers::append_fault;
-use crate::misplaced::{Misplaced, Reader, Remark};
+use crate::check::{Misplaced, Reader, Remark};
 use crate::{PIECE_BYTES, Sayer, say_lines};
 use cert::{Decider, Record, RecordFault};
 use cmd_options::{Ended, Outcome, told};
@@ -98,8 +97,8 @@ struct TableAnswerer<'a, D> {
 impl<'a, D: Decider> Sayer for TableAnswerer<'a, D> {
     ghost use Rattle.std.specs.Prelude.{◌≡◌};
     ghost use Rattle.cmd_options.specs.declared.ended.Ended.TheVariants.{NoMemory as WantsMemory};
-    ghost use Rattle.cmd_lines.specs.Decision.{SaysOfTable};
-    ghost use Rattle.cmd_lines.specs.inside.Taking.{KeepsForm};
+    ghost use Rattle.cmd_lines.specs.Answer.{SaysOfTable};
+    ghost use Rattle.cmd_lines.specs.inside.{KeepsForm};
 
     ghost takes = { KeepsForm (λ a. a.text) (SaysOfTable D.answers) };
 

@@ -1,14 +1,56 @@
-// From the pieces of a text to its lines.
+// From the pieces of a text to its lines, and who takes them or says something to them.
 ghost use Rattle.std.specs.Prelude.{◌≡◌, ◌↔◌, List, ℕ, [], Some, false, IfErr, OnErr, OnOk};
-ghost use Rattle.cmd_lines.specs.Lines.{AreLines};
-ghost use Rattle.cmd_lines.specs.Taken.{AreTakenInTurn, HasTakenFirst, HasTakenLines, IsReadWhole, StopsTaking, StopsTakingFrom, TakesFirst, TakesMore};
+ghost use Rattle.cmd_lines.specs.Lines.{AreLines, AreTakenInTurn, HasTakenFirst, HasTakenLines, IsReadWhole, StopsTaking, StopsTakingFrom, TakesFirst, TakesMore};
 
-use crate::taker::LineTaker;
-use cmd_options::{Ended, Stopped};
+use cmd_options::{Ended, Outcome, Stopped};
 use std::alloc::Global;
 use std::io::Read;
 use std::marker::Model;
 use text::{Cutter, cut};
+
+/// Takes one line after another, and remembers what it has to of them.
+pub trait LineTaker {
+    ghost use Rattle.std.specs.Prelude.{OnErr, OnOk, IfErr};
+    ghost use Rattle.text.specs.Terms.{BoundedLine};
+    ghost use Rattle.cmd_options.specs.declared.ended.Ended.{Ended as End};
+    ghost use Rattle.cmd_lines.specs.Lines.{lent};
+
+    /// What may be remembered once a line was taken, which is none where it was too long.
+    ghost takes: { Self → BoundedLine → Self → Type 0 };
+
+    /// What may be left of what was remembered, where the taking ended at a line.
+    ghost leaves: { Self → Self → Type 0 } = { λ old new. Unit {0} };
+
+    /// What may end the taking.
+    ghost ends: { End → Type 0 };
+
+    /// Takes a line.
+    fn take_line(&mut self, line: Option<&[u8]>) -> Result<(), Ended>
+        ensures ok { OnOk result (takes self.old (lent line.entry) self.new) }
+        ensures left { OnErr result (leaves self.old self.new) }
+        ensures err { IfErr result ends };
+}
+
+/// Takes one line after another, remembers what it has to of them, and says something to each.
+pub trait Sayer {
+    ghost use Rattle.std.specs.Prelude.{◌≡◌, ◌++◌, List, ℕ, IfErr, IfOk};
+    ghost use Rattle.text.specs.Terms.{BoundedLine};
+    ghost use Rattle.cmd_options.specs.declared.ended.Ended.{Ended as End};
+    ghost use Rattle.cmd_options.specs.declared.ended.Outcome.{Outcome as How};
+    ghost use Rattle.cmd_lines.specs.Lines.{lent};
+
+    /// What may be said to a line, which is none where it was too long, how it is taken, and what is remembered then.
+    ghost takes: { Self → BoundedLine → How → Self → List ℕ → Type 0 };
+
+    /// What may end the taking.
+    ghost ends: { End → Type 0 };
+
+    /// Takes a line, and appends the answer to it, whole lines or nothing. What it appended before an error isn't used.
+    fn take_line(&mut self, line: Option<&[u8]>, said: &mut Vec<u8>) -> Result<Outcome, Ended>
+        ensures ok { IfOk result (λ o. (more : List ℕ) × takes self.old (lent line.entry) o self.new more
+            × (said.new.items ≡ said.old.items ++ more)) }
+        ensures err { IfErr result ends };
+}
 
 // How many bytes are read at once, at most.
 const PIECE_BYTES: usize = 16_384;
@@ -20,7 +62,7 @@ pub struct LineLoop {
 }
 
 impl Model for LineLoop {
-    ghost use Rattle.text.specs.Lines.{BoundedLine};
+    ghost use Rattle.text.specs.Terms.{BoundedLine};
 
     ghost Value = { BoundedLine };
 

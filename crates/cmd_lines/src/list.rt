@@ -1,18 +1,15 @@
-// `bb tables`: a text in, tables out.
-ghost use Rattle.std.specs.Prelude.{◌≡◌, ◌⊎◌, ◌∷◌, [], ◌++◌, ℕ, List, map, min, not, IfErr, IfOk, OnOk};
+// `bb tables`: a text in, the tables among its words out.
+ghost use Rattle.std.specs.Prelude.{◌≡◌, ◌∷◌, ◌<◌, not, length, IfSome, position, ◌⊎◌, IfErr, [], ◌++◌, ℕ, List, map, min, IfOk, OnOk};
 ghost use Rattle.std.specs.List.{list_any};
+ghost use Rattle.cmd_lines.specs.Listed.{columns, is_comma, is_word_byte, words, Found, IsFoundIn, IsInForm, ListsFirst, ListsTables, alone, of_record, same_packed, table_in, tables_of_column, tables_of_line, tables_of_word};
+ghost use Rattle.cmd_lines.specs.inside.{columns_left, words_left, ListsFor, found_if};
 ghost use Rattle.indexmap.specs.IndexSet.{insert_key};
-ghost use Rattle.cmd_lines.specs.Taken.{lent};
-ghost use Rattle.run.specs.Limits.{run_step_limit};
-ghost use Rattle.cert.specs.Kinds.{recorded};
-ghost use Rattle.cmd_lines.specs.First.{EndsSaying, WritesFirst};
-ghost use Rattle.cmd_lines.specs.Listed.{Found, IsFoundIn, IsInForm, ListsFirst, ListsTables, alone, of_record, same_packed};
-ghost use Rattle.cmd_lines.specs.Words.{table_in, tables_of_column, tables_of_line, tables_of_word};
-ghost use Rattle.cmd_lines.specs.inside.Listing.{ListsFor, found_if};
+ghost use Rattle.cmd_lines.specs.Lines.{lent};
+ghost use Rattle.run.specs.Terms.{run_step_limit};
+ghost use Rattle.cert.specs.Terms.{recorded};
+ghost use Rattle.cmd_lines.specs.Stream.{EndsSaying, WritesFirst};
 
 use crate::normal::normal_form;
-use crate::passed::Passed;
-use crate::words::{cut_column, cut_word};
 use crate::{PIECE_BYTES, Sayer, read_line, say_lines};
 use cert::{Record, append_table};
 use cmd_options::{Ended, Listing, Outcome, told};
@@ -21,6 +18,86 @@ use kind_evidence::NoMemory;
 use machine_text::{Table, TextFault};
 use std::alloc::Global;
 use std::io::{Read, Write};
+use text::append_number;
+
+// Whether words are made of a byte.
+fn is_word_byte(byte: u8) -> bool
+    ensures { result ≡ is_word_byte byte }
+{
+    (48 <= byte && byte <= 57)
+        || (65 <= byte && byte <= 90)
+        || byte == 45
+        || byte == 95
+        || byte == 44
+}
+
+// The first word of a text, which may be empty, and what stands behind it and one more byte; nothing does where it ends.
+pub(crate) fn cut_word(text: &[u8]) -> (&[u8], Option<&[u8]>)
+    ensures words { words text.now ≡ result.0.now ∷ words_left result.1 }
+    ensures shorter { IfSome result.1 (λ rest. length rest.now < length text.now) }
+{
+    match end_of_word(text) {
+        Some(at) => (&text[..at], Some(&text[at + 1..])),
+        None => (text, None),
+    }
+}
+
+// The place of the first byte that isn't one of a word.
+fn end_of_word(text: &[u8]) -> Option<usize>
+    ensures place { result ≡ position (λ b. not (is_word_byte b)) text.now }
+    ensures within { IfSome result (λ at. at < length text.now) }
+{
+    text.iter().position(|byte| !is_word_byte(*byte))
+}
+
+// The first column of a word, and what stands behind it and its comma; nothing does where the word ends.
+pub(crate) fn cut_column(word: &[u8]) -> (&[u8], Option<&[u8]>)
+    ensures columns { columns word.now ≡ result.0.now ∷ columns_left result.1 }
+    ensures shorter { IfSome result.1 (λ rest. length rest.now < length word.now) }
+{
+    match end_of_column(word) {
+        Some(at) => (&word[..at], Some(&word[at + 1..])),
+        None => (word, None),
+    }
+}
+
+// The place of the first comma.
+fn end_of_column(word: &[u8]) -> Option<usize>
+    ensures place { result ≡ position is_comma word.now }
+    ensures within { IfSome result (λ at. at < length word.now) }
+{
+    word.iter().position(|byte| *byte == b',')
+}
+
+// How many lines had no table, and how many tables had come before.
+#[derive(Clone, Copy, Drop)]
+pub(crate) struct Passed {
+    pub(crate) lines: u64,
+    pub(crate) doubles: u64,
+}
+
+impl Passed {
+    // Says what was passed over, on a line; nothing where nothing was.
+    pub(crate) fn tell<E: Write>(self, alloc: Global, faults: &mut E) -> Result<(), Ended>
+        ensures { IfErr result (λ e. (e ≡ Ended.NoMemory) ⊎ (e ≡ Ended.Stream)) }
+    {
+        if self.lines > 0 || self.doubles > 0 {
+            let told = self.sentence(alloc)?;
+            faults.write_all(&told)?;
+        }
+        Ok(())
+    }
+
+    fn sentence(self, alloc: Global) -> Result<Vec<u8>, NoMemory> {
+        let mut told = Vec::new(alloc);
+        told.extend_from_slice(b"passed over: lines without a table ")?;
+        append_number(self.lines, &mut told)?;
+        told.extend_from_slice(b", doubles ")?;
+        append_number(self.doubles, &mut told)?;
+        told.extend_from_slice(b"\n")?;
+        Ok(told)
+    }
+}
 
 // How long a row of a table is. Where commas stand between rows, none of them is a table of one state.
 const ROW_BYTES: usize = 6;
@@ -86,7 +163,7 @@ struct Lister {
 impl Sayer for Lister {
     ghost use Rattle.std.specs.Prelude.{◌≡◌};
     ghost use Rattle.cmd_options.specs.declared.ended.Ended.TheVariants.{NoMemory as WantsMemory};
-    ghost use Rattle.cmd_lines.specs.inside.Listing.{ListsLine};
+    ghost use Rattle.cmd_lines.specs.inside.{ListsLine};
 
     ghost takes = { ListsLine (λ l. l.form.listing) (λ l. l.came.keys) };
 

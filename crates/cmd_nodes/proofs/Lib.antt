@@ -1,13 +1,3 @@
-pub mod Carrying
-pub mod WorkTurns
-pub mod Moves
-pub mod Becoming
-pub mod Peers
 pub mod Traffic
-pub mod OwnFaults
-pub mod Taking
-pub mod NoneOpen
-pub mod Roots
-pub mod Steps
-pub mod Settling
-pub mod PartServed
+pub mod NodeRounds
+pub mod Coordinators

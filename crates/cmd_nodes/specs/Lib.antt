@@ -1,10 +1,6 @@
 pub mod Faults
-pub mod Calls
-pub mod Losses
 pub mod Moving
-pub mod Kept
 pub mod Served
-pub mod Rounds
-pub mod Listened
 pub mod Settled
 pub mod inside
+pub mod Terms

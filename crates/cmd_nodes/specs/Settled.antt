@@ -1,29 +1,22 @@
 -- What a ledger holds in the end of what was opened of it, and what a coordinator holds.
 use Rattle.std.specs.Prelude.{◌≡◌, ◌⊎◌, ℕ, List, All, Option, Some, Result, Ok, Err, IfSome, length}
 use Rattle.std.specs.declared.io.Error.{Error}
-use Rattle.machine_text.specs.Packed.{empty_table}
-use Rattle.ledger.specs.Contents.{Contents, IsBoard}
-use Rattle.ledger.specs.LedgerText.{IsLedgerOf}
-use Rattle.ledger.specs.Tally.{IsStatus}
-use Rattle.ledger.specs.declared.left.Left.{Left}
-use Rattle.ledger.specs.declared.left.Left.TheVariants.{Nothing}
-use Rattle.ledger.specs.declared.status.Status.{Status}
-use Rattle.cmd_ledgers.specs.LedgerReport.{outcome_by}
-use Rattle.cmd_ledgers.specs.Reading.{IsLoadedFrom}
-use Rattle.cmd_ledgers.specs.Settled.{FormText, ReportsTree}
+use Rattle.machine_text.specs.Terms.{empty_table}
+use Rattle.ledger.specs.Terms.{Contents, IsBoard, IsLedgerOf, IsStatus}
+use Rattle.ledger.specs.declared.loading.Left.{Left}
+use Rattle.ledger.specs.declared.loading.Left.TheVariants.{Nothing}
+use Rattle.ledger.specs.declared.faults.Status.{Status}
+use Rattle.cmd_ledgers.specs.Terms.{outcome_by, IsLoadedFrom, FormText, ReportsTree}
 use Rattle.files.specs.declared.opened.Opened.{Opened}
-use Rattle.cmd_options.specs.Ends.{PrintsNothing}
+use Rattle.cmd_options.specs.Terms.{PrintsNothing}
 use Rattle.cmd_options.specs.declared.ended.Ended.{Ended}
-use Rattle.cmd_options.specs.declared.outcome.Outcome.{Outcome}
+use Rattle.cmd_options.specs.declared.ended.Outcome.{Outcome}
 use Rattle.cmd_options.specs.declared.options.Settling.{Settling}
-use Rattle.lease_core.specs.CoordinatorRules.{Coordinating}
-use Rattle.lease_core.specs.Starts.{started}
-use Rattle.wire.specs.Fulfilled.{Answering}
-use Rattle.cmd_nodes.specs.Rounds.{HasTakenRounds}
-use Rattle.peers.specs.declared.conduct.Conduct.{Conduct}
-use Rattle.peers.specs.Connections.{Taking}
-use Rattle.cmd_nodes.specs.Served.{IsBegunFrom, ComesToHold, NoneOpen}
-use Rattle.cmd_nodes.specs.Listened.{HasListened, Traffic}
+use Rattle.lease_core.specs.Terms.{Coordinating, started}
+use Rattle.wire.specs.Terms.{Answering}
+use Rattle.cmd_nodes.specs.Served.{HasTakenRounds, IsBegunFrom, ComesToHold, NoneOpen, HasListened, Traffic}
+use Rattle.peers.specs.declared.guarded.Conduct.{Conduct}
+use Rattle.peers.specs.Terms.{Taking}
 
 -- what a ledger holds is what was opened of it, to its last byte
 pub record IsOfLedger (has : Option (List ℕ)) (len : ℕ) (text : Option (List ℕ)) : Type 0 where

@@ -2,22 +2,17 @@
 use Rattle.std.specs.Prelude.{◌≡◌, ℕ, ◌<◌, List, Option, Some, Result, Ok, Err, IfSome, length, slice_index_or}
 use Rattle.std.specs.Io.KnownBytes.{Appends}
 use Rattle.std.specs.declared.io.Error.{Error}
-use Rattle.machine_text.specs.Packed.{Packed}
-use Rattle.ledger.specs.Contents.{Contents, IsBoard}
-use Rattle.ledger.specs.Tally.{IsStatus}
-use Rattle.ledger.specs.declared.left.Left.{Left}
-use Rattle.ledger.specs.declared.left.Left.TheVariants.{Nothing}
-use Rattle.ledger.specs.declared.status.Status.{Status}
-use Rattle.leases.specs.Leases.{Leased}
-use Rattle.lease_core.specs.CoordinatorFinals.{board_of}
-use Rattle.lease_core.specs.CoordinatorRules.{Coordinating, On}
-use Rattle.lease_core.specs.Starts.{InStep, started}
+use Rattle.machine_text.specs.Terms.{Packed}
+use Rattle.ledger.specs.Terms.{Contents, IsBoard, IsStatus}
+use Rattle.ledger.specs.declared.loading.Left.{Left}
+use Rattle.ledger.specs.declared.loading.Left.TheVariants.{Nothing}
+use Rattle.ledger.specs.declared.faults.Status.{Status}
+use Rattle.leases.specs.Terms.{Leased}
+use Rattle.lease_core.specs.Terms.{board_of, Coordinating, On, InStep, started}
 use Rattle.files.specs.declared.opened.Opened.{Opened}
-use Rattle.cmd_ledgers.specs.LedgerReport.{outcome_by}
-use Rattle.cmd_ledgers.specs.Reading.{IsLoadedFrom}
-use Rattle.cmd_options.specs.declared.outcome.Outcome.{Outcome}
-use Rattle.cmd_ledgers.specs.Settled.{FormText}
-use Rattle.cmd_nodes.specs.declared.station.Station.{Station}
+use Rattle.cmd_ledgers.specs.Terms.{outcome_by, IsLoadedFrom, FormText}
+use Rattle.cmd_options.specs.declared.ended.Outcome.{Outcome}
+use Rattle.cmd_nodes.specs.declared.rounds.Station.{Station}
 use Rattle.cmd_nodes.specs.Served.{Becomes, NoneOpen}
 use Rattle.cmd_nodes.specs.Settled.{IsOfLedger}
 

@@ -1,23 +1,102 @@
 // `bb work`: the workers of a process, over a stream to their coordinator.
 ghost use Rattle.std.specs.Prelude.{◌≡◌, ◌≢◌, ◌≤◌, ◌+◌, Ok, IfErr, IfOk, OnOk};
-ghost use Rattle.peers.specs.Due.{capped_sum};
-ghost use Rattle.peers.specs.Waiting.{waits_of};
-ghost use Rattle.cmd_nodes.specs.Calls.{EndsTalk, GivesUp, HasCalled, IsOwnFault};
+ghost use Rattle.peers.specs.Terms.{capped_sum, waits_of};
+ghost use Rattle.cmd_nodes.specs.Faults.{EndsTalk, GivesUp, HasCalled, IsOwnFault};
 
 use crate::answerer::{Answered, Answerer};
-use crate::caller::{CoordinatorCaller, Destination};
-use crate::faults::in_memory;
-use crate::network::Network;
-use crate::pause::Pause;
-use crate::two_streams::TwoStreams;
+use crate::held_ledger::in_memory;
+use crate::links::{Network, TwoStreams};
 use cmd_options::{Ended, Outcome};
 use kind_evidence::NoMemory;
 use peers::{Pool, Waits};
 use std::alloc::Global;
 use std::io::{self, ErrorKind, Read, Write};
 use std::thread;
-use std::time::{Clock, Duration};
+use std::time::{Clock, Duration, Instant};
 use wire::{LedgerOut, MAX_PIECE_BYTES, MemLink, Node, TurnFault};
+
+// The longest pause, in milliseconds.
+const MOST_MILLISECONDS: u64 = 1_000;
+
+// Pauses of a millisecond at first, each twice as long as the one before it while as many workers come again for nothing, and
+// at most a second.
+#[derive(Drop)]
+pub(crate) struct Pause<'a, C> {
+    clock: &'a C,
+    start: Instant,
+    milliseconds: u64,
+    // how many workers came again the last time
+    woken: usize,
+}
+
+impl<'a, C: Clock> Pause<'a, C> {
+    pub fn new(clock: &'a C) -> io::Result<Pause<'a, C>> {
+        Ok(Pause {
+            clock,
+            start: Instant::now(clock)?,
+            milliseconds: 1,
+            woken: 0,
+        })
+    }
+
+    // Whether it is over.
+    pub fn is_over(&self) -> io::Result<bool> {
+        Ok(self.rest()? == Duration::ZERO)
+    }
+
+    // Waits for its end.
+    pub fn wait(&self) -> io::Result<()> {
+        thread::sleep(self.clock, self.rest()?);
+        Ok(())
+    }
+
+    // Whether none is longer.
+    pub fn is_longest(&self) -> bool {
+        self.milliseconds == MOST_MILLISECONDS
+    }
+
+    // The next one begins, after so many workers came again.
+    pub fn begin(&mut self, woken: usize) -> io::Result<()> {
+        self.milliseconds = if woken > 0 && woken == self.woken {
+            self.milliseconds.saturating_mul(2).min(MOST_MILLISECONDS)
+        } else {
+            1
+        };
+        self.woken = woken;
+        self.start = Instant::now(self.clock)?;
+        Ok(())
+    }
+
+    fn rest(&self) -> io::Result<Duration> {
+        let gone = Instant::now(self.clock)?.duration_since(self.start);
+        Ok(Duration::from_millis(self.milliseconds).saturating_sub(gone))
+    }
+}
+
+/// Where a coordinator is called.
+#[derive(Clone, Copy)]
+pub struct Destination<'a> {
+    /// The address at which it listens.
+    pub address: &'a str,
+    /// The token that it has to show, and is shown; none where it may be any.
+    pub token: Option<&'a [u8]>,
+}
+
+/// One who calls coordinators, and counts how often.
+pub trait CoordinatorCaller {
+    ghost use Rattle.std.specs.Prelude.{◌≡◌, ℕ};
+    ghost use Rattle.peers.specs.Terms.{capped_sum};
+
+    type Stream: Read + Write + Drop;
+
+    /// A count of its calls, as far as 64 bits go.
+    ghost calls: { Self → ℕ };
+
+    /// A connection with a coordinator. A read for which nothing comes for long ends with `WouldBlock`, and so does a write for
+    /// which nothing is taken.
+    fn call(&mut self, to: Destination<'_>) -> io::Result<Self::Stream>
+        ensures { calls self.new ≡ capped_sum (calls self.old) 1 };
+}
 
 // The longest wait before it is tried again to connect, in seconds.
 const MOST_SECONDS: u64 = 60;

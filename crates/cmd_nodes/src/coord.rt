@@ -1,31 +1,64 @@
-// `bb coord`: a coordinator over two streams and a ledger.
-ghost use Rattle.std.specs.Prelude.{◌≡◌, ◌≤◌, None, IfOk, IfSome, OnOk, Result};
-ghost use Rattle.machine_text.specs.Limits.{state_limit};
-ghost use Rattle.wire.specs.Fulfilled.{kept_text};
+// `bb coord`: a coordinator over two streams and a ledger, and the report of its board.
+ghost use Rattle.std.specs.Prelude.{◌≡◌, ◌⊎◌, IfErr, IfOk, IfSome, ◌≤◌, None, OnOk, Result};
+ghost use Rattle.cmd_nodes.specs.inside.{ReportsBoard, KeepsStep, StartsInStep, StartsPart};
+ghost use Rattle.machine_text.specs.Terms.{state_limit};
+ghost use Rattle.wire.specs.Terms.{kept_text};
 ghost use Rattle.wire.specs.declared.node.Out.{Out as Answer};
-ghost use Rattle.lease_core.specs.Starts.{InStep};
-ghost use Rattle.ledger.specs.Contents.{IsBoard};
-ghost use Rattle.ledger.specs.Tally.{IsStatus};
-ghost use Rattle.ledger.specs.declared.status.Status.{Status as BoardStatus};
-ghost use Rattle.cmd_ledgers.specs.LedgerReport.{outcome_by};
-ghost use Rattle.cmd_options.specs.Ends.{EndsTold};
+ghost use Rattle.lease_core.specs.Terms.{InStep};
+ghost use Rattle.ledger.specs.Terms.{IsBoard, IsStatus};
+ghost use Rattle.ledger.specs.declared.faults.Status.{Status as BoardStatus};
+ghost use Rattle.cmd_ledgers.specs.Terms.{outcome_by};
+ghost use Rattle.cmd_options.specs.Terms.{EndsTold};
 ghost use Rattle.cmd_options.specs.declared.ended.Ended.{Ended as Ends};
-ghost use Rattle.cmd_options.specs.declared.outcome.Outcome.{Outcome as Outcomes};
+ghost use Rattle.cmd_options.specs.declared.ended.Outcome.{Outcome as Outcomes};
 ghost use Rattle.cmd_nodes.specs.Served.{Becomes, IsBegunFrom, IsBegunWith};
 ghost use Rattle.cmd_nodes.specs.Settled.{CoordinatesTree, IsOfLedger, IsServedBoard};
-ghost use Rattle.cmd_nodes.specs.inside.{KeepsStep, StartsInStep, StartsPart};
 
-use crate::faults::{by_start, by_turn};
-use crate::held_ledger::HeldLedger;
-use crate::streams::Streams;
-use cmd_ledgers::{cut_off, keep_answer, load_held, outcome_by};
+use crate::held_ledger::{HeldLedger, by_start, by_turn};
+use crate::links::Streams;
+use cmd_ledgers::{ReportForm, cut_off, keep_answer, load_held, outcome_by, write_report};
 use cmd_options::{Beginning, Ended, Outcome, ended_by, told};
 use files::Opened;
 use lease_core::{Coordinator, StartFault};
-use ledger::Left;
+use ledger::{Board, Left};
 use std::alloc::Global;
 use std::io::{self, BufWriter, Read, Write};
 use wire::{LedgerOut, Lines, Link, Node, Out, Turn, turn};
+
+// Prints the report of a coordinator's board, and answers by how that stands. Where memory is refused, nothing was
+// printed.
+pub(crate) fn report_board<P: ReportForm, W: Write>(
+    alloc: Global,
+    form: &P,
+    node: &Coordinator,
+    answers: &mut W,
+) -> Result<Outcome, Ended>
+    ensures ok { IfOk result (λ o. IfSome node.now.held (λ held.
+        ReportsBoard (P.is_text form.now) held.board (W.contents answers.old) (W.contents answers.new) o)) }
+    ensures err { IfErr result (λ e. (W.contents answers.new ≡ W.contents answers.old) ⊎ (e ≡ Ended.Stream)) }
+{
+    match node.board() {
+        Some(board) => report_of(alloc, form, board, answers),
+        None => Ok(Outcome::Refused),
+    }
+}
+
+// Reports a board.
+fn report_of<P: ReportForm, W: Write>(
+    alloc: Global,
+    form: &P,
+    board: &Board,
+    answers: &mut W,
+) -> Result<Outcome, Ended>
+    ensures ok { IfOk result
+        (ReportsBoard (P.is_text form.now) board.now (W.contents answers.old) (W.contents answers.new)) }
+    ensures err { IfErr result (λ e. (W.contents answers.new ≡ W.contents answers.old) ⊎ (e ≡ Ended.Stream)) }
+{
+    // The proof needs that it is a board.
+    let _ = board.root();
+    write_report(alloc, form, board, &Left::Nothing, answers)?;
+    Ok(outcome_by(board.status(), &Left::Nothing))
+}
 
 /// Begins a coordinator from what a ledger holds, and answers the frames of `input`, a line each, until it ends:
 /// what is new stands in the ledger before a frame says so. `held` reads what the ledger holds. Accepted where

@@ -1,20 +1,15 @@
 // `bb coord --listen`: a coordinator whose workers connect, and then the report.
 ghost use Rattle.std.specs.Prelude.{◌≡◌, ◌≤◌, [], None, IfOk, OnErr, OnOk};
-ghost use Rattle.machine_text.specs.Limits.{state_limit};
-ghost use Rattle.machine_text.specs.Packed.{empty_table};
-ghost use Rattle.cmd_ledgers.specs.Settled.{SettlesTree};
-ghost use Rattle.lease_core.specs.CoordinatorRules.{Coordinating, On};
-ghost use Rattle.peers.specs.Connections.{TakesAsBefore};
-ghost use Rattle.peers.specs.Guarded.{unheard};
-ghost use Rattle.peers.specs.Served.{Served, served};
-ghost use Rattle.cmd_nodes.specs.Listened.{HasListened, Listens, ListensFrom, ListensUntil, traffic};
-ghost use Rattle.cmd_nodes.specs.Served.{IsBegunFrom};
+ghost use Rattle.machine_text.specs.Terms.{state_limit, empty_table};
+ghost use Rattle.cmd_ledgers.specs.Terms.{SettlesTree};
+ghost use Rattle.lease_core.specs.Terms.{Coordinating, On};
+ghost use Rattle.peers.specs.Terms.{TakesAsBefore, Served, served, unheard};
+ghost use Rattle.cmd_nodes.specs.Served.{HasListened, Listens, ListensFrom, ListensUntil, traffic, IsBegunFrom};
 ghost use Rattle.cmd_nodes.specs.Settled.{IsBegunOfPart, IsSettledBoard, SettlesPart};
 ghost use Rattle.cmd_nodes.specs.inside.{IsServed, IsSettled};
 
-use crate::coord::{start_coordinator, start_part};
-use crate::faults::by_turn;
-use crate::reporting::report_board;
+use crate::coord::{report_board, start_coordinator, start_part};
+use crate::held_ledger::by_turn;
 use crate::rounds::is_settled;
 use cmd_ledgers::ReportForm;
 use cmd_options::{Beginning, Ended, Outcome};

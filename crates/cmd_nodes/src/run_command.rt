@@ -1,19 +1,18 @@
-// `bb run`: a coordinator and workers in one process, and then the report.
-ghost use Rattle.std.specs.Prelude.{◌≡◌, ◌⊎◌, ◌≤◌, All, IfOk, List, ℕ, OnOk, Option, Result, map};
-ghost use Rattle.machine_text.specs.Limits.{state_limit};
-ghost use Rattle.cmd_options.specs.Ends.{EndsTold};
+// `bb run` and `bb loop`: a coordinator and workers in one process, and then the report.
+ghost use Rattle.std.specs.Prelude.{◌≤◌, List, ℕ, Option, Result, ◌≡◌, ◌⊎◌, All, IfOk, OnOk, map};
+ghost use Rattle.machine_text.specs.Terms.{state_limit};
+ghost use Rattle.cmd_options.specs.Terms.{EndsTold};
 ghost use Rattle.cmd_options.specs.declared.ended.Ended.{Ended as Ends};
-ghost use Rattle.cmd_options.specs.declared.outcome.Outcome.{Outcome as Outcomes};
-ghost use Rattle.cmd_ledgers.specs.Settled.{SettlesTree, TellsTree};
+ghost use Rattle.cmd_options.specs.declared.ended.Outcome.{Outcome as Outcomes};
+ghost use Rattle.cmd_ledgers.specs.Terms.{SettlesTree, TellsTree};
 ghost use Rattle.cmd_nodes.specs.Settled.{IsRunBoard};
-ghost use Rattle.cmd_nodes.specs.Rounds.{HasTakenRounds};
+ghost use Rattle.cmd_nodes.specs.Served.{HasTakenRounds};
 ghost use Rattle.cmd_nodes.specs.inside.{IsServed, IsSettled};
 
-use crate::coord::start_coordinator;
-use crate::couriers::{Couriers, InMemory};
-use crate::reporting::report_board;
-use crate::rounds::run_rounds;
-use crate::station::Station;
+use crate::coord::{report_board, start_coordinator};
+use crate::couriers::{Couriers, InMemory, OverSockets};
+use crate::links::Sockets;
+use crate::rounds::{Station, run_rounds};
 use cmd_ledgers::ReportForm;
 use cmd_options::{Beginning, Ended, Outcome, Settling, told};
 use files::{Opened, Progress};
@@ -21,6 +20,45 @@ use lease_core::Coordinator;
 use std::alloc::Global;
 use std::io::{self, Read, Write};
 use wire::{LedgerOut, Node};
+
+/// Does what `cmd_run` does, but that the frames of each worker go over a connection of its own, and that none is lost.
+/// A socket that fails ends it as a stream does.
+#[tactic(auto, using(cmd_ledgers::proofs::TreeReports::tells))]
+pub fn cmd_loop<
+    P: ReportForm,
+    F: Read + Drop,
+    L: LedgerOut,
+    N: Node + Drop,
+    S: Sockets,
+    G: Progress,
+    W: Write,
+    E: Write,
+>(
+    alloc: Global,
+    run: Run<'_, P, N>,
+    sockets: &S,
+    held: io::Result<Opened<F>>,
+    ledger: &mut L,
+    progress: &mut G,
+    answers: &mut W,
+    faults: &mut E,
+) -> Outcome
+    requires { (1 ≤ run.settling.now.states) × (run.settling.now.states ≤ state_limit) }
+    ensures tells { TellsTree (P.is_text run.entry.form.now) run.entry.settling.now.states
+        (IsRunBoard N.answers run.entry.settling.now run.entry.workers.items F.remaining held (L.text ledger.old)
+        (L.text ledger.new)) (W.contents answers.old) (W.contents answers.new) result }
+    ensures ends { (ended : Result Outcomes Ends) × (said : Option (List ℕ))
+        × SettlesTree (P.is_text run.entry.form.now) run.entry.settling.now.states
+        (IsRunBoard N.answers run.entry.settling.now run.entry.workers.items F.remaining held (L.text ledger.old)
+        (L.text ledger.new)) (W.contents answers.old) (W.contents answers.new) ended
+        × EndsTold ended said (E.contents faults.new) result }
+{
+    let couriers = OverSockets { sockets };
+    told(
+        settle(alloc, run, &couriers, held, ledger, progress, answers),
+        faults,
+    )
+}
 
 /// What is run.
 #[derive(Drop)]
@@ -36,7 +74,7 @@ pub struct Run<'a, P, N> {
 /// Settles the tree of the empty table by a coordinator and workers, and prints the report in a form. The
 /// coordinator's board begins with what `held` reads, and its records go to `ledger`. Accepted where the board is
 /// complete at the end. How far it is goes to `progress`; what ends the command early is said on `faults`.
-#[tactic(auto, using(cmd_ledgers::proofs::Settling::tells))]
+#[tactic(auto, using(cmd_ledgers::proofs::TreeReports::tells))]
 pub fn cmd_run<
     P: ReportForm,
     F: Read + Drop,

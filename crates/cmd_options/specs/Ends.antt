@@ -6,12 +6,12 @@ use Rattle.std.specs.declared.io.Error.{Error}
 use Rattle.std.specs.declared.io.ErrorKind.{ErrorKind}
 use Rattle.std.specs.declared.io.ErrorKind.TheVariants.{OutOfMemory}
 use Rattle.cmd_options.specs.Outcome.{ended_text, outcome_of}
-use Rattle.cmd_options.specs.declared.outcome.Outcome.{Outcome}
-use Rattle.cmd_options.specs.declared.outcome.Outcome.TheVariants.{Failed as HasFailed}
+use Rattle.cmd_options.specs.declared.ended.Outcome.{Outcome}
+use Rattle.cmd_options.specs.declared.ended.Outcome.TheVariants.{Failed as HasFailed}
 use Rattle.cmd_options.specs.declared.ended.Ended.{Ended}
 use Rattle.cmd_options.specs.declared.ended.Ended.TheVariants.{NoMemory, Stream}
-use Rattle.cmd_options.specs.declared.stopped.Stopped.{Stopped}
-use Rattle.cmd_options.specs.declared.stopped.Stopped.TheVariants.{Failed, Ended as EndedBy}
+use Rattle.cmd_options.specs.declared.ended.Stopped.{Stopped}
+use Rattle.cmd_options.specs.declared.ended.Stopped.TheVariants.{Failed, Ended as EndedBy}
 
 -- refused memory, where that is its kind; else what it is said to be
 abbrev pub end_of_kind : ErrorKind → Ended → Ended

@@ -3,7 +3,7 @@ use Rattle.std.specs.Prelude.{◌≡◌, ◌≤◌, ℕ, Option, None, IfSome}
 use Rattle.cmd_options.specs.declared.options.Options.{Options}
 use Rattle.cmd_options.specs.declared.options.Options.TheVariants.{Check, Decide, Explain, Show, Tables, Coord, CoordPart, Work, Run, Loop, Retry, Merge, Carry, Mend, Split, Settle, Walk, Join, Look, Draw, Page, Report}
 use Rattle.cmd_options.specs.declared.options.Search.{Search}
-use Rattle.cmd_options.specs.declared.drawing.Drawing.{Drawing}
+use Rattle.cmd_options.specs.declared.options.Drawing.{Drawing}
 use Rattle.cmd_options.specs.declared.options.Beginning.{Beginning}
 use Rattle.cmd_options.specs.declared.options.Listening.{Listening}
 use Rattle.cmd_options.specs.declared.options.PartCoordinating.{PartCoordinating}

@@ -1,12 +1,85 @@
-// What ends a command before its work is done.
+// How a command ended, and what ends it before its work is done.
 ghost use Rattle.std.specs.Prelude.{◌≡◌, ◌⊎◌};
-ghost use Rattle.cmd_options.specs.Outcome.{ended_text, outcome_of};
-ghost use Rattle.cmd_options.specs.Ends.{IsTold};
+ghost use Rattle.cmd_options.specs.Outcome.{status_of, ended_text, outcome_of};
+ghost use Rattle.cmd_options.specs.Ends.{end_when, IsTold, EndsTold, end_by};
 
-use crate::outcome::Outcome;
 use crate::writing::write_in_full;
 use std::alloc::AllocError as NoMemory;
-use std::io::{self, Write};
+use std::io::{self, ErrorKind, Write};
+
+/// How a command ended, the gravest last: where several hold, the gravest stands.
+#[derive(Clone, Copy, Debug, PartialEq, Eq, PartialOrd, Ord)]
+pub enum Outcome {
+    /// All was accepted.
+    Accepted,
+    /// A line was refused.
+    Refused,
+    /// The command line was refused.
+    BadLine,
+    /// Memory was refused.
+    NoMemory,
+    /// A stream or a file failed.
+    Failed,
+}
+
+impl Outcome {
+    /// The exit status.
+    pub fn status(self) -> u8
+        ensures { result ≡ status_of self }
+    {
+        match self {
+            Outcome::Accepted => 0,
+            Outcome::Refused => 1,
+            Outcome::BadLine => 2,
+            Outcome::NoMemory => 3,
+            Outcome::Failed => 4,
+        }
+    }
+}
+
+/// What ends a command that reads before its work is done.
+#[derive(Debug, Drop)]
+pub enum Stopped {
+    /// A read failed.
+    Failed(io::Error),
+    /// Anything else.
+    Ended(Ended),
+}
+
+impl Stopped {
+    /// What ends a command by it; `otherwise` where a read failed for which memory wasn't refused.
+    pub fn ended(self, otherwise: Ended) -> Ended
+        ensures { result ≡ end_when self otherwise }
+    {
+        match self {
+            Stopped::Failed(fault) => ended_by(&fault, otherwise),
+            Stopped::Ended(ended) => ended,
+        }
+    }
+}
+
+impl From<Ended> for Stopped {
+    ghost use Rattle.std.specs.Prelude.{◌≡◌};
+    ghost use Rattle.cmd_options.specs.declared.ended.Stopped.TheVariants.{Ended as EndedBy};
+
+    ghost from_gives = { λ ended e. e ≡ EndedBy ended };
+
+    fn from(ended: Ended) -> Stopped {
+        Stopped::Ended(ended)
+    }
+}
+
+impl From<NoMemory> for Stopped {
+    ghost use Rattle.std.specs.Prelude.{◌≡◌};
+    ghost use Rattle.cmd_options.specs.declared.ended.Ended.TheVariants.{NoMemory};
+    ghost use Rattle.cmd_options.specs.declared.ended.Stopped.TheVariants.{Ended as EndedBy};
+
+    ghost from_gives = { λ _ e. e ≡ EndedBy NoMemory };
+
+    fn from(_: NoMemory) -> Stopped {
+        Stopped::Ended(Ended::NoMemory)
+    }
+}
 
 /// What ends a command before its work is done.
 #[derive(Clone, Copy, Debug, PartialEq, Eq)]
@@ -94,5 +167,27 @@ impl From<io::Error> for Ended {
 
     fn from(_: io::Error) -> Ended {
         Ended::Stream
+    }
+}
+
+/// What ends a command by an error: refused memory, or else what it is an error of.
+#[tactic(auto, unfolding(crate::specs::Ends::end_by))]
+pub fn ended_by(fault: &io::Error, otherwise: Ended) -> Ended
+    ensures is { result ≡ end_by fault.now otherwise }
+    ensures either { (result ≡ Ended.NoMemory) ⊎ (result ≡ otherwise) }
+{
+    match fault.kind() {
+        ErrorKind::OutOfMemory => Ended::NoMemory,
+        _ => otherwise,
+    }
+}
+
+/// How a command ended; what ended it early is said on `faults`.
+pub fn told<E: Write>(ended: Result<Outcome, Ended>, faults: &mut E) -> Outcome
+    ensures { EndsTold ended (E.contents faults.old) (E.contents faults.new) result }
+{
+    match ended {
+        Ok(outcome) => outcome,
+        Err(ended) => ended.told(faults),
     }
 }

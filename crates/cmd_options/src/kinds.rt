@@ -2,8 +2,8 @@
 ghost use Rattle.std.specs.Prelude.{◌≡◌};
 ghost use Rattle.cmd_options.specs.Kinds.{kind_label};
 
-use crate::number::Number;
 use crate::ranged;
+use crate::version::Number;
 
 /// The letters of the kinds, in the order in which a page has them (`kind_letters`).
 pub const LETTERS: &[u8] = b"HLCTBNFAWRPU";

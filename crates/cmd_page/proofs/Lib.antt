@@ -1,11 +1,3 @@
-pub mod EntryLaws
-pub mod Escapes
-pub mod Counted
-pub mod Powers
 pub mod PageLaws
-pub mod Listing
-pub mod PageTold
-pub mod Pieces
-pub mod Appending
-pub mod Rows
-pub mod FeedingBoth
+pub mod PageTexts
+pub mod SummedLedgers

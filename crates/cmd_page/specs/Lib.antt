@@ -1,10 +1,4 @@
-pub mod Escaped
-pub mod Census
-pub mod Heading
-pub mod Counting
-pub mod Counts
 pub mod Page
+pub mod Census
 pub mod inside
-pub mod Sums
-pub mod Folder
-pub mod Records
+pub mod Terms

@@ -1,7 +1,7 @@
 -- For the code: numbers that are counted, and a ledger that is loaded and summed up.
 use Rattle.std.specs.Prelude.{◌≡◌, ℕ, ◌<◌, List, ◌++◌, slice_index}
-use Rattle.cert.specs.Claim.{Recorded}
-use Rattle.ledger.specs.Loading.{IsFed, Loading}
+use Rattle.cert.specs.Terms.{Recorded}
+use Rattle.ledger.specs.Terms.{IsFed, Loading}
 use Rattle.sha2.specs.Hashers.{Holds256}
 use Rattle.sha2.specs.declared.Sha256.{Sha256}
 use Rattle.cmd_page.specs.Census.{halting_from, of_kind, with_entries}

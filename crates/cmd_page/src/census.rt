@@ -1,12 +1,41 @@
 // How many records there are of each kind, of tables with so many entries, and of tables that halt in so many steps.
 ghost use Rattle.std.specs.Prelude.{◌≡◌, ℕ, ◌+◌, ◌-◌, ◌^◌, ◌<◌, ◌==◌, if◌then◌else◌, slice_index, length, IsTrue};
-ghost use Rattle.cert.specs.Kinds.{claim_of};
+ghost use Rattle.cert.specs.Terms.{claim_of};
 ghost use Rattle.cmd_page.specs.Census.{AreMore, entry_count, halts_from, letter_of, reaches};
 ghost use Rattle.cmd_page.specs.inside.{IsCensus};
 
 use cert::Certificate;
+use cmd_options::Ended;
+use cmd_parts::Collector;
 use ledger::{Board, Records};
 use machine_text::Table;
+use std::alloc::Global;
+
+/// Counts the records of a trunk and of each part that counts. There is no one ledger of them.
+#[derive(Drop)]
+pub struct Counting {
+    pub census: Census,
+}
+
+impl Collector for Counting {
+    ghost use Rattle.std.specs.Prelude.{None};
+    ghost use Rattle.cmd_page.specs.Census.{HasCounted};
+
+    ghost text = { λ counting. None };
+
+    ghost counts = { λ counting rs. HasCounted rs counting.census };
+
+    fn begin(&mut self, _alloc: Global, trunk: &Board) -> Result<(), Ended> {
+        self.census = Census::new();
+        self.census.add(trunk);
+        Ok(())
+    }
+
+    fn add(&mut self, _alloc: Global, part: &Board) -> Result<(), Ended> {
+        self.census.add(part);
+        Ok(())
+    }
+}
 
 /// How many records there are: of each kind, by its letter; of tables with so many entries, by that number; and of tables
 /// that halt in 2^k steps or more and in fewer than 2^(k + 1), by k.
@@ -19,8 +48,8 @@ pub struct Census {
 
 impl Census {
     ghost use Rattle.std.specs.Prelude.{[], ◌++◌, List};
-    ghost use Rattle.cert.specs.Claim.{Recorded};
-    ghost use Rattle.cmd_page.specs.Counting.{HasCounted};
+    ghost use Rattle.cert.specs.Terms.{Recorded};
+    ghost use Rattle.cmd_page.specs.Census.{HasCounted};
 
     /// Of no record.
     pub fn new() -> Census
@@ -129,7 +158,7 @@ fn letter_of(certificate: &Certificate<'_>) -> usize
 }
 
 // How many of a table's pairs have an entry.
-#[tactic(auto, using(crate::proofs::EntryLaws::entries_and_holes))]
+#[tactic(auto, using(crate::proofs::PageLaws::entries_and_holes))]
 fn entry_count(t: &Table) -> u8
     ensures count { result ≡ entry_count t.now }
     ensures few { result < 15 }

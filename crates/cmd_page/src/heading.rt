@@ -1,11 +1,16 @@
-// What a page is of, and what it is made from.
-ghost use Rattle.std.specs.Prelude.{◌≡◌, ◌++◌, OnOk};
-ghost use Rattle.cmd_page.specs.Heading.{ledgers_html, origin_html, program_html, sum_html, version_html};
+// What a page is of, what it is made from, and what it counts beside its report.
+ghost use Rattle.std.specs.Prelude.{◌≡◌, ◌++◌, OnOk, length, slice_index};
+ghost use Rattle.cmd_page.specs.Page.{ledgers_html, origin_html, program_html, sum_html, version_html};
+ghost use Rattle.cmd_page.specs.Census.{census_numbers, comma, counts_json, item_json, kind_json, kinds_json, left_json, numbers_json, rest_json};
 
-use crate::escape::append_escaped;
-use crate::listed::append_hex;
+use crate::census::Census;
+use crate::shell::append_escaped;
+use crate::sums::append_hex;
+use cmd_options::LETTERS;
 use kind_evidence::NoMemory;
+use ledger::Left;
 use std::marker::Model;
+use text::append_number;
 
 /// What a page is of, and what it is made from, so that it can be cited.
 #[derive(Drop)]
@@ -19,7 +24,7 @@ pub struct Heading<'a> {
 }
 
 impl<'a> Model for Heading<'a> {
-    ghost use Rattle.cmd_page.specs.Heading.{Headed};
+    ghost use Rattle.cmd_page.specs.Page.{Headed};
 
     ghost Value = { Headed };
 
@@ -64,7 +69,7 @@ const SUM: &[u8] = b"</th><td><code>";
 const SUM_END: &[u8] = b"</code></td></tr>\n";
 
 // Appends the rows that say what a page is made from.
-#[tactic(auto, unfolding(crate::specs::Heading::origin_html))]
+#[tactic(auto, unfolding(crate::specs::Page::origin_html))]
 pub(crate) fn append_origin(heading: &Heading<'_>, out: &mut Vec<u8>) -> Result<(), NoMemory>
     ensures { OnOk result (out.new.items ≡ out.old.items ++ origin_html heading.now) }
 {
@@ -74,7 +79,7 @@ pub(crate) fn append_origin(heading: &Heading<'_>, out: &mut Vec<u8>) -> Result<
 }
 
 // Appends the row of the program's version.
-#[tactic(auto, unfolding(crate::specs::Heading::version_html))]
+#[tactic(auto, unfolding(crate::specs::Page::version_html))]
 fn append_version(version: &str, out: &mut Vec<u8>) -> Result<(), NoMemory>
     ensures { OnOk result (out.new.items ≡ out.old.items ++ version_html version.now) }
 {
@@ -84,7 +89,7 @@ fn append_version(version: &str, out: &mut Vec<u8>) -> Result<(), NoMemory>
 }
 
 // Appends the row of the program's sum, where it is known.
-#[tactic(auto, unfolding(crate::specs::Heading::program_html))]
+#[tactic(auto, unfolding(crate::specs::Page::program_html))]
 fn append_program(sum: Option<[u8; 32]>, out: &mut Vec<u8>) -> Result<(), NoMemory>
     ensures { OnOk result (out.new.items ≡ out.old.items ++ program_html sum) }
 {
@@ -95,7 +100,7 @@ fn append_program(sum: Option<[u8; 32]>, out: &mut Vec<u8>) -> Result<(), NoMemo
 }
 
 // Appends the row of the sum of what the page is of, where it is known.
-#[tactic(auto, unfolding(crate::specs::Heading::ledgers_html))]
+#[tactic(auto, unfolding(crate::specs::Page::ledgers_html))]
 fn append_ledgers(sum: LedgerSum, out: &mut Vec<u8>) -> Result<(), NoMemory>
     ensures { OnOk result (out.new.items ≡ out.old.items ++ ledgers_html sum) }
 {
@@ -107,7 +112,7 @@ fn append_ledgers(sum: LedgerSum, out: &mut Vec<u8>) -> Result<(), NoMemory>
 }
 
 // Appends the row of a sum.
-#[tactic(auto, unfolding(crate::specs::Heading::sum_html))]
+#[tactic(auto, unfolding(crate::specs::Page::sum_html))]
 fn append_sum(name: &[u8], sum: &[u8; 32], out: &mut Vec<u8>) -> Result<(), NoMemory>
     ensures { OnOk result (out.new.items ≡ out.old.items ++ sum_html name.now sum.now) }
 {
@@ -116,4 +121,89 @@ fn append_sum(name: &[u8], sum: &[u8; 32], out: &mut Vec<u8>) -> Result<(), NoMe
     out.extend_from_slice(SUM)?;
     append_hex(sum, out)?;
     out.extend_from_slice(SUM_END)
+}
+
+// Appends the object of a census, and of what wasn't kept of a ledger.
+#[tactic(auto, unfolding(crate::specs::Census::counts_json))]
+pub(crate) fn append_counts(census: &Census, left: &Left, out: &mut Vec<u8>) -> Result<(), NoMemory>
+    ensures { OnOk result (out.new.items ≡ out.old.items ++ counts_json (census_numbers census.now) left.now) }
+{
+    out.extend_from_slice(b"{\"entries\":[")?;
+    append_numbers(&census.entries, out)?;
+    out.extend_from_slice(b"],\"left\":")?;
+    append_left(left, out)?;
+    append_rest(census, out)
+}
+
+// Appends the members behind those.
+#[tactic(auto, unfolding(crate::specs::Census::rest_json))]
+fn append_rest(census: &Census, out: &mut Vec<u8>) -> Result<(), NoMemory>
+    ensures { OnOk result (out.new.items ≡ out.old.items ++ rest_json (census_numbers census.now)) }
+{
+    out.extend_from_slice(b",\"steps\":[")?;
+    append_numbers(&census.steps, out)?;
+    out.extend_from_slice(b"]")?;
+    append_kinds(&census.kinds, out)?;
+    out.extend_from_slice(b"}\n")
+}
+
+// Appends from which line on a ledger isn't kept, or null.
+fn append_left(left: &Left, out: &mut Vec<u8>) -> Result<(), NoMemory>
+    ensures { OnOk result (out.new.items ≡ out.old.items ++ left_json left.now) }
+{
+    match left {
+        Left::Nothing => out.extend_from_slice(b"null"),
+        Left::From { line, .. } => append_number(*line, out),
+    }
+}
+
+// Appends numbers, with a comma between two.
+fn append_numbers(numbers: &[u64], out: &mut Vec<u8>) -> Result<(), NoMemory>
+    ensures { OnOk result (out.new.items
+        ≡ out.old.items ++ numbers_json (length numbers.now) (slice_index numbers.now)) }
+{
+    for k in 0..numbers.len() {
+        append_item(k, numbers[k], out)?;
+    }
+    Ok(())
+}
+
+// Appends the number at a place.
+#[tactic(auto, unfolding(crate::specs::Census::item_json))]
+fn append_item(place: usize, n: u64, out: &mut Vec<u8>) -> Result<(), NoMemory>
+    ensures { OnOk result (out.new.items ≡ out.old.items ++ item_json place n) }
+{
+    append_comma(place, out)?;
+    append_number(n, out)
+}
+
+// Appends a comma, except before the first.
+fn append_comma(place: usize, out: &mut Vec<u8>) -> Result<(), NoMemory>
+    ensures { OnOk result (out.new.items ≡ out.old.items ++ comma place) }
+{
+    if place == 0 {
+        return Ok(());
+    }
+    out.extend_from_slice(b",")
+}
+
+// Appends how many there are of each kind, by its letter.
+fn append_kinds(kinds: &[u64; 256], out: &mut Vec<u8>) -> Result<(), NoMemory>
+    ensures { OnOk result (out.new.items ≡ out.old.items ++ kinds_json (slice_index kinds.now)) }
+{
+    for letter in LETTERS {
+        append_kind(*letter, kinds[*letter as usize], out)?;
+    }
+    Ok(())
+}
+
+// Appends how many there are of the kind of a letter.
+#[tactic(auto, unfolding(crate::specs::Census::kind_json))]
+fn append_kind(letter: u8, n: u64, out: &mut Vec<u8>) -> Result<(), NoMemory>
+    ensures { OnOk result (out.new.items ≡ out.old.items ++ kind_json letter n) }
+{
+    out.extend_from_slice(b",\"")?;
+    out.push(letter)?;
+    out.extend_from_slice(b"\":")?;
+    append_number(n, out)
 }

@@ -1,21 +1,122 @@
-// The page of a board, and of a ledger.
-ghost use Rattle.std.specs.Prelude.{◌≡◌, ◌⊎◌, ℕ, List, IfOk, IfErr, OnOk};
+// The page of a board, of a ledger and of a folder.
+ghost use Rattle.std.specs.Prelude.{◌≡◌, ◌++◌, List, ℕ, IfOk, ◌⊎◌, IfErr, OnOk, ◌^◌, ◌<◌, None, length};
+ghost use Rattle.std.specs.Vec.Iter.{into_iter_items};
 ghost use Rattle.std.specs.Io.KnownBytes.{Appends};
-ghost use Rattle.cmd_ledgers.specs.LedgerReport.{WritesLedger};
-ghost use Rattle.cmd_ledgers.specs.Reading.{AreFirstBytes};
+ghost use Rattle.machine_text.specs.Terms.{Packed};
+ghost use Rattle.cert.specs.Terms.{Recorded};
+ghost use Rattle.cmd_ledgers.specs.Terms.{IsToldOf, WritesLedger, AreFirstBytes};
+ghost use Rattle.cmd_page.specs.Census.{census_numbers};
+ghost use Rattle.cmd_page.specs.Page.{IsPageWith, ledger_heading, IsPage, TellsFolder};
 ghost use Rattle.sha2.specs.Sha256.{sha256};
-ghost use Rattle.cmd_page.specs.Heading.{ledger_heading};
-ghost use Rattle.cmd_page.specs.Page.{IsPage};
+ghost use Rattle.ledger.specs.Terms.{Contents};
+ghost use Rattle.totals.specs.Terms.{joined_with, IsWhole};
+ghost use Rattle.cmd_parts.specs.Terms.{finds_at, WarnsFirst};
+ghost use Rattle.cmd_options.specs.Terms.{PrintsNothing};
 
-use crate::census::census_of;
-use crate::form::Page;
+use crate::census::{Census, Counting, census_of};
 use crate::heading::{Heading, LedgerSum, Maker};
-use crate::summed::load_summed;
-use cmd_ledgers::{outcome_by, write_report};
+use crate::shell::{Page, append_page};
+use crate::sums::{list_sum, load_summed};
+use cmd_json::LinesOrJson;
+use cmd_ledgers::{AsLines, ReportForm, Told, outcome_by, write_report};
 use cmd_options::{Ended, Outcome, Stopped};
+use cmd_parts::{PartLedgers, PartsAt, gather, open_tables, tell_whole};
+use files::Files;
+use kind_evidence::NoMemory;
 use ledger::{Board, Left};
+use machine_text::Table;
 use std::alloc::Global;
 use std::io::{Read, Write};
+use std::vec::IntoIter;
+use totals::Whole;
+
+// Makes the page of what is counted and told.
+pub(crate) fn page_of(
+    alloc: Global,
+    heading: &Heading<'_>,
+    census: &Census,
+    told: Told,
+    left: &Left,
+) -> Result<Vec<u8>, NoMemory>
+    ensures { IfOk result (λ page. (root : Packed) (rs : List Recorded) → IsToldOf root rs told
+        → IsPageWith (census_numbers census.now) heading.now root rs left.now page.items) }
+{
+    let (told, again) = twice(alloc, told)?;
+    let lines = text_in(alloc, &AsLines, told, left)?;
+    let json = text_in(alloc, &LinesOrJson::Json, again, left)?;
+    let mut page = Vec::new(alloc);
+    append_page(heading, &lines, &json, census, left, &mut page)?;
+    Ok(page)
+}
+
+// The text of a report in a form.
+fn text_in<P: ReportForm>(
+    alloc: Global,
+    form: &P,
+    told: Told,
+    left: &Left,
+) -> Result<Vec<u8>, NoMemory>
+    ensures { IfOk result (λ text. (root : Packed) (rs : List Recorded) → IsToldOf root rs told
+        → P.is_text form.now root rs left.now text.items) }
+{
+    let made = form.make(alloc, told, left)?;
+    let mut text = Vec::new(alloc);
+    match form.write(made, &mut text) {
+        Ok(()) => Ok(text),
+        Err(_) => Err(NoMemory),
+    }
+}
+
+// What is told, twice.
+fn twice(alloc: Global, told: Told) -> Result<(Told, Told), NoMemory>
+    ensures { IfOk result (λ both. (root : Packed) (rs : List Recorded) → IsToldOf root rs told
+        → IsToldOf root rs both.0 × IsToldOf root rs both.1) }
+{
+    let Told {
+        root,
+        status,
+        tally,
+        champions,
+        ones_champions,
+        holdouts,
+    } = told;
+    let champions = copies(alloc, champions)?;
+    let ones_champions = copies(alloc, ones_champions)?;
+    let holdouts = copies(alloc, holdouts)?;
+    let first = Told {
+        root,
+        status,
+        tally,
+        champions: champions.0,
+        ones_champions: ones_champions.0,
+        holdouts: holdouts.0,
+    };
+    let second = Told {
+        root,
+        status,
+        tally,
+        champions: champions.1,
+        ones_champions: ones_champions.1,
+        holdouts: holdouts.1,
+    };
+    Ok((first, second))
+}
+
+// The tables that are left, twice.
+fn copies(
+    alloc: Global,
+    tables: IntoIter<Table>,
+) -> Result<(IntoIter<Table>, IntoIter<Table>), NoMemory>
+    ensures first { IfOk result (λ both. into_iter_items both.0 ≡ into_iter_items tables) }
+    ensures second { IfOk result (λ both. into_iter_items both.1 ≡ into_iter_items tables) }
+{
+    let mut first = Vec::new(alloc);
+    for table in tables {
+        first.push(table)?;
+    }
+    let second = Vec::from_slice(alloc, &first)?;
+    Ok((first.into_iter(), second.into_iter()))
+}
 
 // Writes the page of a board under a heading, and says what wasn't kept of its ledger. Where memory is refused, nothing was
 // written.
@@ -61,4 +162,75 @@ pub fn write_ledger_page<R: Read, W: Write>(
     };
     write_page(alloc, &heading, &board, &left, answers)?;
     Ok((outcome_by(board.status(), &left), left))
+}
+
+// Writes the page of the trunk in a folder and of the parts beside it, under a title, with the SHA-256 of the list of its
+// ledgers, which are read once more for that. What is wrong with the trunk or a part is said on `faults` behind its path,
+// as `join_parts` has it, and so is what it answers.
+pub(crate) fn write_folder_page<S: PartLedgers, W: Write, E: Write>(
+    alloc: Global,
+    maker: &Maker<'_>,
+    title: &str,
+    folder: &str,
+    parts: &S,
+    answers: &mut W,
+    faults: &mut E,
+) -> Result<Outcome, Ended>
+    ensures tells { IfOk result (TellsFolder title.now maker.now.version.now maker.now.sum (S.finds parts.now)
+        folder.now (W.contents answers.old) (W.contents answers.new) (E.contents faults.old) (E.contents faults.new)) }
+    ensures silent { IfErr result (λ e. PrintsNothing e (W.contents answers.old) (W.contents answers.new)) }
+    ensures warned { IfErr result (WarnsFirst (S.finds parts.now) folder.now (E.contents faults.old)
+        (E.contents faults.new)) }
+{
+    let mut counting = Counting {
+        census: Census::new(),
+    };
+    let (whole, is_sound) = gather(alloc, folder, parts, &mut counting, faults)?;
+    count_fits(&whole);
+    let roots = open_tables(alloc, whole.trunk())?;
+    let sum = list_sum(alloc, folder, parts, &roots)?;
+    let heading = Heading {
+        title,
+        maker: *maker,
+        ledgers: LedgerSum::Folder(sum),
+    };
+    let page = Page {
+        heading: &heading,
+        census: &counting.census,
+    };
+    tell_whole(alloc, &page, &whole, is_sound, answers)
+}
+
+// All records of a whole are no more than 64 bits count.
+fn count_fits(whole: &Whole)
+    ensures { (parts : List Contents) → IsWhole whole.now parts
+        → length (joined_with whole.now.trunk.records parts) < 2 ^ 64 }
+{
+    let _tally = whole.tally();
+}
+
+/// Writes the page of the trunk in a folder of a host's files and of the parts beside it, under a title, with the SHA-256
+/// of the list of its ledgers, which are read once more for that. What is wrong with the trunk or a part is said on `faults`
+/// behind its path, as `join_parts` has it, and so is what it answers.
+pub fn folder_page_at<H: Files, W: Write, E: Write>(
+    alloc: Global,
+    maker: &Maker<'_>,
+    title: &str,
+    folder: &str,
+    host: &H,
+    answers: &mut W,
+    faults: &mut E,
+) -> Result<Outcome, Ended>
+    ensures tells { IfOk result (TellsFolder title.now maker.now.version.now maker.now.sum (finds_at (H.holds host.now))
+        folder.now (W.contents answers.old) (W.contents answers.new) (E.contents faults.old)
+        (E.contents faults.new)) }
+    ensures silent { IfErr result (λ e. PrintsNothing e (W.contents answers.old) (W.contents answers.new)) }
+    ensures warned { IfErr result (WarnsFirst (finds_at (H.holds host.now)) folder.now (E.contents faults.old)
+        (E.contents faults.new)) }
+{
+    let parts = PartsAt {
+        host,
+        written: None,
+    };
+    write_folder_page(alloc, maker, title, folder, &parts, answers, faults)
 }

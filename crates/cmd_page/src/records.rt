@@ -1,14 +1,13 @@
 // The page of a stream of records.
 ghost use Rattle.std.specs.Prelude.{◌≡◌, ◌⊎◌, ◌++◌, ◌∷◌, [], List, ℕ, IfErr, IfOk};
-ghost use Rattle.cmd_lines.specs.Taken.{lent};
-ghost use Rattle.cmd_json.specs.Numbered.{number_behind};
-ghost use Rattle.cmd_page.specs.Records.{SaysEmbedded, WritesRecords, records_head_html, records_heading};
+ghost use Rattle.cmd_lines.specs.Terms.{lent};
+ghost use Rattle.cmd_json.specs.Terms.{number_behind};
+ghost use Rattle.cmd_page.specs.Page.{SaysEmbedded, WritesRecords, records_head_html, records_heading};
 
-use crate::escape::append_embedded;
 use crate::heading::{Heading, LedgerSum, Maker, append_origin};
 use crate::look::{RECORD_LINES, RECORDS};
 use crate::script::RECORDS_SCRIPT;
-use crate::shell::append_opening;
+use crate::shell::{append_embedded, append_opening};
 use cmd_json::explain_json_line;
 use cmd_lines::{PIECE_BYTES, Sayer, say_lines};
 use cmd_options::{Ended, Outcome};
@@ -65,8 +64,8 @@ struct Objects {
 impl Sayer for Objects {
     ghost use Rattle.std.specs.Prelude.{◌≡◌};
     ghost use Rattle.cmd_options.specs.declared.ended.Ended.TheVariants.{NoMemory as WantsMemory};
-    ghost use Rattle.cmd_json.specs.Numbered.{SaysNumbered};
-    ghost use Rattle.cmd_page.specs.Records.{SaysEmbedded};
+    ghost use Rattle.cmd_json.specs.Terms.{SaysNumbered};
+    ghost use Rattle.cmd_page.specs.Page.{SaysEmbedded};
 
     ghost takes = { λ old line o new said. SaysNumbered SaysEmbedded old.lines line o new.lines said };
 

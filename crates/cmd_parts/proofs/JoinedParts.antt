@@ -1,32 +1,32 @@
--- One ledger of a trunk and its parts: its lines are the trunk's, and then those of each part.
-use Rattle.std.proofs.Common.{◌≡◌, ◌≢◌, ◌≤◌, ◌<◌, ℕ, Bool, true, false, List, [], ◌∷◌, ◌++◌, length, drop, take, get_or, Option, Some, None, IfOk, OnOk, Result, Ok, Err, inl, inr, refl, sym, ap, subst, ◌∙◌, append_assoc, append-nil, length-append, arith}
+-- One ledger of a trunk and its parts: its lines, its place, and what an early end leaves of it.
+use Rattle.std.proofs.Common.{◌≡◌, ◌≢◌, ◌≤◌, ◌<◌, ℕ, Bool, true, false, List, [], ◌∷◌, ◌++◌, length, drop, take, get_or, Option, Some, None, IfOk, OnOk, Result, Ok, Err, inl, inr, refl, sym, ap, subst, ◌∙◌, append_assoc, append-nil, length-append, arith, ◌⊎◌, IfErr}
 use Rattle.std.specs.Prelude.{map, codes}
 use Rattle.std.specs.Io.KnownBytes.{Appends}
 use Rattle.std.specs.List.{AllPairs, Contains}
 use Rattle.std.proofs.lemmas.List.{map-append, length-take, get_or-take}
-use Rattle.text.specs.Lines.{joined}
-use Rattle.machine_text.specs.Packed.{Packed}
-use Rattle.machine_text.specs.Text.{text_of}
-use Rattle.cert.specs.Claim.{Recorded}
-use Rattle.ledger.specs.Contents.{Contents, IsOpenOn}
-use Rattle.ledger.specs.LedgerText.{ledger_text}
-use Rattle.ledger.specs.Tally.{AreAll}
-use Rattle.ledger.specs.Versions.{header_words, ledger_line}
-use Rattle.ledger.specs.declared.format.Format.TheVariants.{Two}
-use Rattle.ledger.specs.declared.left.Left.{Left}
+use Rattle.std.proofs.lemmas.List.Elements.{All-contains}
+use Rattle.text.specs.Terms.{joined}
+use Rattle.machine_text.specs.Terms.{Packed, text_of}
+use Rattle.cert.specs.Terms.{Recorded}
+use Rattle.ledger.specs.Terms.{Contents, IsOpenOn, ledger_text, header_words, ledger_line, AreAll}
+use Rattle.ledger.specs.declared.header.Format.TheVariants.{Two}
+use Rattle.ledger.specs.declared.loading.Left.{Left}
 use Rattle.cmd_options.specs.declared.ended.Ended.{Ended}
-use Rattle.cmd_options.specs.declared.outcome.Outcome.{Outcome}
-use Rattle.ledger.proofs.Apart.{first_member, first_or_later, later_member}
-use Rattle.ledger.proofs.LinesTaken.{joined-append}
-use Rattle.wire.specs.Device.{grown}
-use Rattle.totals.specs.Parts.{joined_with}
-use Rattle.totals.specs.Whole.{AddGives, Collected, IsWhole}
-use Rattle.totals.proofs.ManyParts.{joined_more}
-use Rattle.cmd_parts.specs.Join.{AreMet, Findings, HoldsTree, IsMet, IsMetAs, IsMetIn, IsReadAt, TellsAll, TellsParts, counted_part, is_silent, left_line, line_behind, record_lines}
-use Rattle.cmd_parts.specs.Split.{path_within}
-use Rattle.cmd_parts.specs.Gather.{IsGathered}
-use Rattle.cmd_parts.specs.inside.{AddsCounted, AreAdded, CountsMore, MeetsPart, counted_records}
+use Rattle.cmd_options.specs.declared.ended.Outcome.{Outcome}
+use Rattle.ledger.proofs.HeldLaws.{first_member, first_or_later, later_member}
+use Rattle.ledger.proofs.Feeding.{joined-append}
+use Rattle.wire.specs.Terms.{grown}
+use Rattle.totals.specs.Terms.{joined_with, AddGives, Collected, IsWhole}
+use Rattle.totals.proofs.TrunkAndParts.{joined_more}
+use Rattle.cmd_parts.specs.Join.{AreMet, Findings, HoldsTree, IsMet, IsMetAs, IsMetIn, IsReadAt, TellsAll, TellsParts, counted_part, is_silent, left_line, line_behind, record_lines, IsGathered, SaysFirst, WarnsFirst, IsSpared}
+use Rattle.cmd_parts.specs.Settle.{path_within}
+use Rattle.cmd_parts.specs.inside.{AddsCounted, AreAdded, CountsMore, MeetsPart, counted_records, SaysMet, AreOthers}
+use Rattle.cmd_options.specs.declared.ended.Ended.TheVariants.{Stream}
+use Rattle.cmd_options.specs.Terms.{PrintsNothing}
+use Rattle.files.specs.Terms.{Shelf}
+use Rattle.cmd_parts.specs.AtPaths.{JoinsAt, finds_at}
 
+-- One ledger of a trunk and its parts: its lines are the trunk's, and then those of each part.
 lines_both : (a b : List Recorded) → record_lines (a ++ b) ≡ record_lines a ++ record_lines b
 lines_both a b = ap joined (map-append (ledger_line Two) a b) ∙ joined-append (map (ledger_line Two) a) (map (ledger_line Two) b)
 
@@ -310,3 +310,92 @@ all_told {Counted} IsText Finds folder before after said new_said faults new_fau
   writes = gathered.writes;
 }
 all_told {Counted} IsText Finds folder before after said new_said faults new_faults whole sound (Err e) gathered tells = tt
+
+-- What is said of a trunk and its parts before the telling ends early.
+module _ (Finds : Findings) (folder : List ℕ) where
+  -- what is wrong with the trunk and with the first parts is said
+  pub warns_behind : (path here : List ℕ) (trunk : Contents) (left : Left) (roots : List Packed) (faults mid new_faults : Option (List ℕ)) → path ≡ path_within folder (codes "trunk") → here ≡ path_within folder (codes "trunk")
+      → IsReadAt Finds path trunk left → AreAll (IsOpenOn trunk) roots → Appends faults mid (left_line here left) → SaysMet Finds folder roots mid new_faults → SaysFirst Finds folder faults new_faults
+  warns_behind path here trunk left roots faults mid new_faults is there reads are_open says more = record {
+    trunk = trunk;
+    left = left;
+    reads = subst (λ (p : List ℕ). IsReadAt Finds p trunk left) is reads;
+    met = more.met;
+    later = more.later;
+    are_open = subst (AreAll (IsOpenOn trunk)) more.are_all are_open;
+    parts = more.parts;
+    said = more.lines;
+    are_met = more.are_met;
+    says = subst (λ (p : List ℕ). Appends faults new_faults (left_line p left ++ more.lines)) there
+        (appends_both faults mid new_faults (left_line here left) more.lines says more.says);
+  }
+
+  -- before the first part
+  pub none_met : (roots : List Packed) (faults : Option (List ℕ)) → SaysMet Finds folder roots faults faults
+  none_met roots faults = record { met = []; later = roots; are_all = refl; parts = []; lines = []; are_met = (refl, refl); says = appends_nothing faults }
+
+  -- at one of them
+  pub met_before : {Old New : List Recorded → Type 0} (e : Ended) (roots : List Packed) (i : ℕ) (sound : Bool) (trunk : Contents) (whole : Collected) (before after faults mid new_faults : Option (List ℕ)) → roots ≡ take i roots ++ drop i roots
+      → AreAdded Finds folder (take i roots) trunk whole sound before after faults mid Old New → PrintsNothing e mid new_faults → SaysMet Finds folder roots faults new_faults ⊎ (e ≡ Stream)
+  met_before {Old} {New} e roots i sound trunk whole before after faults mid new_faults split added (inl same) = inl (record {
+    met = take i roots;
+    later = drop i roots;
+    are_all = split;
+    parts = added.parts;
+    lines = added.lines;
+    are_met = added.met;
+    says = subst (λ (o : Option (List ℕ)). Appends faults o added.lines) (sym same) added.says;
+  })
+  met_before {Old} {New} e roots i sound trunk whole before after faults mid new_faults split added (inr stream) = inr stream
+
+  -- all is gathered, but the report isn't written
+  pub warns_all : (trunk : Contents) (parts : List Contents) (lines : List ℕ) (faults new_faults : Option (List ℕ)) → HoldsTree Finds folder trunk parts lines → Appends faults new_faults lines → SaysFirst Finds folder faults new_faults
+  warns_all trunk parts lines faults new_faults holds says = record {
+    trunk = trunk;
+    left = holds.left;
+    reads = holds.reads;
+    met = holds.roots;
+    later = [];
+    are_open = subst (AreAll (IsOpenOn trunk)) (sym (append-nil holds.roots)) holds.are_open;
+    parts = parts;
+    said = holds.said;
+    are_met = holds.are_met;
+    says = subst (Appends faults new_faults) holds.all_lines says;
+  }
+
+-- A trunk and its parts that were told of where they stand.
+module _ (IsText : Packed → List Recorded → Left → List ℕ → Type 0) (folder : List ℕ) (said new_said faults new_faults : Option (List ℕ)) where
+  pub told_alone : (shelf : Shelf) (r : Result Outcome Ended) → IfOk r (TellsAll IsText (finds_at shelf) folder None None said new_said faults new_faults)
+      → IfErr r (λ e. PrintsNothing e said new_said) → IfErr r (WarnsFirst (finds_at shelf) folder faults new_faults) → JoinsAt IsText folder shelf shelf said new_said faults new_faults r
+  told_alone shelf (Ok o) tells silent warns = (tells, λ path. refl)
+  told_alone shelf (Err e) tells silent warns = (silent, warns, λ path. refl)
+
+-- A ledger that is written isn't one of those that are read for it.
+
+-- neither the trunk nor one of the parts of its open tables
+pub spared : (Tells : List ℕ → Bool → Type 0) (Finds : Findings) (folder : List ℕ) (trunk : Contents) (left : Left) (roots : List Packed)
+    → IsReadAt Finds (path_within folder (codes "trunk")) trunk left → AreAll (IsOpenOn trunk) roots → Tells (path_within folder (codes "trunk")) false
+    → AreOthers Tells folder roots → IsSpared Tells Finds folder
+spared Tells Finds folder trunk left roots reads all other others = record {
+  trunk = trunk;
+  left = left;
+  reads = reads;
+  trunk_is_other = other;
+  parts_are_others = λ root is. All-contains (λ (t : Packed). Tells (path_within folder (text_of t)) false) roots root others ((all.exact root).1 is);
+}
+
+-- what is told by one is told by another
+pub spared_by : (Tells Others : List ℕ → Bool → Type 0) (Finds : Findings) (folder : List ℕ) → ((path : List ℕ) → Tells path false → Others path false)
+    → IsSpared Tells Finds folder → IsSpared Others Finds folder
+spared_by Tells Others Finds folder so is = record {
+  trunk = is.trunk;
+  left = is.left;
+  reads = is.reads;
+  trunk_is_other = so _ is.trunk_is_other;
+  parts_are_others = λ root is_open. so _ (is.parts_are_others root is_open);
+}
+
+pub spared_at : {T E : Type 0} (Tells Others : List ℕ → Bool → Type 0) (Finds : Findings) (folder : List ℕ) (r : Result T E)
+    → ((path : List ℕ) → Tells path false → Others path false) → OnOk r (IsSpared Tells Finds folder) → OnOk r (IsSpared Others Finds folder)
+spared_at Tells Others Finds folder (Ok x) so is = spared_by Tells Others Finds folder so is
+spared_at Tells Others Finds folder (Err e) so is = tt

@@ -1,24 +1,19 @@
 -- A trunk and its parts by what stands at their paths.
 use Rattle.std.specs.Prelude.{◌≡◌, ◌⊎◌, ℕ, Bool, false, nat_lt, List, [], ◌∷◌, Option, Some, None, Result, Ok, Err, ⊤, codes, length}
 use Rattle.std.specs.Io.KnownBytes.{Appends}
-use Rattle.machine_text.specs.Packed.{Packed, empty_table}
-use Rattle.machine_text.specs.Text.{text_of}
-use Rattle.cert.specs.Claim.{Recorded}
-use Rattle.ledger.specs.Contents.{Contents, IsOpenOn}
-use Rattle.ledger.specs.Tally.{AreAll, IsTally}
-use Rattle.ledger.specs.declared.left.Left.{Left}
-use Rattle.ledger.specs.declared.tally.Tally.{Tally}
-use Rattle.cmd_options.specs.declared.outcome.Outcome.{Outcome}
-use Rattle.cmd_options.specs.declared.outcome.Outcome.TheVariants.{Accepted}
+use Rattle.machine_text.specs.Terms.{Packed, empty_table, text_of}
+use Rattle.cert.specs.Terms.{Recorded}
+use Rattle.ledger.specs.Terms.{Contents, IsOpenOn, AreAll, IsTally}
+use Rattle.ledger.specs.declared.loading.Left.{Left}
+use Rattle.ledger.specs.declared.counts.Tally.{Tally}
+use Rattle.cmd_options.specs.declared.ended.Outcome.{Outcome}
+use Rattle.cmd_options.specs.declared.ended.Outcome.TheVariants.{Accepted}
 use Rattle.cmd_options.specs.declared.ended.Ended.{Ended}
-use Rattle.files.specs.Paths.{Shelf, Known, SameFile, Unknown, Missing, Bytes, IsBlank, IsKept, IsKeptBut, IsLedgerAt, IsPut}
-use Rattle.cmd_ledgers.specs.GoingOn.{GoesOnAt, LeavesAt}
-use Rattle.cmd_options.specs.Ends.{PrintsNothing}
-use Rattle.cmd_parts.specs.Join.{Findings, TellsAll, WarnsFirst}
-use Rattle.cmd_parts.specs.Settle.{SettlesLedger}
-use Rattle.cmd_parts.specs.Spared.{IsSpared}
-use Rattle.cmd_parts.specs.Settling.{ComesFirst, LeavesSettled}
-use Rattle.cmd_parts.specs.Split.{GrowsTrunk, LeavesBegun, LeavesTrunk, begun_part, path_within, split_text}
+use Rattle.files.specs.Terms.{Shelf, Known, SameFile, Unknown, Missing, Bytes, IsBlank, IsKept, IsKeptBut, IsLedgerAt, IsPut}
+use Rattle.cmd_ledgers.specs.Terms.{GoesOnAt, LeavesAt}
+use Rattle.cmd_options.specs.Terms.{PrintsNothing}
+use Rattle.cmd_parts.specs.Join.{Findings, TellsAll, WarnsFirst, IsSpared}
+use Rattle.cmd_parts.specs.Settle.{SettlesLedger, ComesFirst, LeavesSettled, GrowsTrunk, LeavesBegun, LeavesTrunk, begun_part, path_within, split_text}
 
 -- what is found where this stands
 abbrev pub IsFoundAt : Known → Option (Option (List ℕ) × ℕ) → Type 0

@@ -1,30 +1,26 @@
--- A trunk and its parts that are told of together, as one ledger would be that holds the records of all.
+-- A trunk and its parts that are told of together.
 use Rattle.std.specs.Prelude.{◌≡◌, ◌≢◌, ◌⊎◌, ℕ, Bool, true, false, List, [], ◌∷◌, ◌++◌, map, Option, None, Some, codes, decimal}
 use Rattle.std.specs.Io.KnownBytes.{Appends}
-use Rattle.text.specs.Lines.{joined}
-use Rattle.machine_text.specs.Packed.{Packed}
-use Rattle.machine_text.specs.Text.{text_of}
-use Rattle.cert.specs.Claim.{Recorded}
-use Rattle.ledger.specs.Contents.{Contents, IsBoard, IsOpenOn}
-use Rattle.ledger.specs.LedgerText.{ledger_text}
-use Rattle.ledger.specs.Tally.{AreAll, IsStatus}
-use Rattle.ledger.specs.Versions.{ledger_line}
-use Rattle.ledger.specs.declared.format.Format.TheVariants.{Two}
-use Rattle.ledger.specs.declared.left.Left.{Left}
-use Rattle.ledger.specs.declared.left.Left.TheVariants.{Nothing, From}
-use Rattle.ledger.specs.declared.status.Status.{Status}
-use Rattle.wire.specs.Device.{grown}
-use Rattle.cmd_ledgers.specs.LedgerReport.{outcome_by}
-use Rattle.cmd_ledgers.specs.Reading.{EndsReading, IsLoadedFrom}
-use Rattle.cmd_options.specs.declared.stopped.Stopped.TheVariants.{Ended as EndedBy}
-use Rattle.cmd_options.specs.Ends.{PrintsNothing}
-use Rattle.cmd_options.specs.Outcome.{ended_line}
+use Rattle.text.specs.Terms.{joined}
+use Rattle.machine_text.specs.Terms.{Packed, text_of}
+use Rattle.cert.specs.Terms.{Recorded}
+use Rattle.ledger.specs.Terms.{Contents, IsBoard, IsOpenOn, ledger_text, ledger_line, AreAll, IsStatus}
+use Rattle.ledger.specs.declared.header.Format.TheVariants.{Two}
+use Rattle.ledger.specs.declared.loading.Left.{Left}
+use Rattle.ledger.specs.declared.loading.Left.TheVariants.{Nothing, From}
+use Rattle.ledger.specs.declared.faults.Status.{Status}
+use Rattle.wire.specs.Terms.{grown}
+use Rattle.cmd_ledgers.specs.Terms.{outcome_by, EndsReading, IsLoadedFrom}
+use Rattle.cmd_options.specs.declared.ended.Stopped.TheVariants.{Ended as EndedBy}
+use Rattle.cmd_options.specs.Terms.{PrintsNothing, ended_line}
 use Rattle.cmd_options.specs.declared.ended.Ended.{Ended}
 use Rattle.cmd_options.specs.declared.ended.Ended.TheVariants.{BadHeader, WrongRoot}
-use Rattle.cmd_options.specs.declared.outcome.Outcome.{Outcome}
-use Rattle.cmd_options.specs.declared.outcome.Outcome.TheVariants.{Refused}
-use Rattle.totals.specs.Parts.{AreParts, joined_with}
-use Rattle.cmd_parts.specs.Split.{path_within}
+use Rattle.cmd_options.specs.declared.ended.Outcome.{Outcome}
+use Rattle.cmd_options.specs.declared.ended.Outcome.TheVariants.{Refused}
+use Rattle.totals.specs.Terms.{AreParts, joined_with, Collected, IsWhole}
+use Rattle.cmd_parts.specs.Settle.{path_within}
+
+-- A trunk and its parts that are told of together, as one ledger would be that holds the records of all.
 
 -- the lines of records in a ledger of version 2
 abbrev pub record_lines : List Recorded → List ℕ
@@ -146,3 +142,27 @@ pub record SaysFirst (Finds : Findings) (folder : List ℕ) (faults new_faults :
 abbrev pub WarnsFirst : Findings → List ℕ → Option (List ℕ) → Option (List ℕ) → Ended → Type 0
 WarnsFirst Finds folder faults new_faults e =
     PrintsNothing e faults new_faults ⊎ SaysFirst Finds folder faults new_faults
+
+-- A trunk and its parts that are gathered, before anything is printed of them.
+
+-- it is the whole of what a folder holds, the one ledger of all stands behind what stood in its place, and all are counted
+pub record IsGathered (Finds : Findings) (folder : List ℕ) (whole : Collected) (is_sound : Bool)
+    (before after faults new_faults : Option (List ℕ)) (Counted : List Recorded → Type 0) : Type 0 where
+  pub parts : List Contents
+  pub lines : List ℕ
+  pub holds : HoldsTree Finds folder whole.trunk parts lines
+  pub whole_is : IsWhole whole parts
+  pub sound : is_sound ≡ is_silent lines
+  pub says : Appends faults new_faults lines
+  pub writes : after ≡ grown before (ledger_text whole.trunk.root (joined_with whole.trunk.records parts))
+  pub counts : Counted (joined_with whole.trunk.records parts)
+
+-- A ledger that is written isn't one of those that are read for it.
+
+-- of the trunk that a folder holds, and of the part of each of its open tables, it is told that they aren't that ledger
+pub record IsSpared (Tells : List ℕ → Bool → Type 0) (Finds : Findings) (folder : List ℕ) : Type 0 where
+  pub trunk : Contents
+  pub left : Left
+  pub reads : IsReadAt Finds (path_within folder (codes "trunk")) trunk left
+  pub trunk_is_other : Tells (path_within folder (codes "trunk")) false
+  pub parts_are_others : (root : Packed) → IsOpenOn trunk root → Tells (path_within folder (text_of root)) false

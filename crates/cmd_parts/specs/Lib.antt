@@ -1,13 +1,7 @@
-pub mod Settling
 pub mod Settle
-pub mod Split
 pub mod Join
-pub mod Gather
-pub mod Spared
 pub mod inside
 pub mod AtPaths
-pub mod Ledgers
 pub mod Stream
-pub mod Tables
 pub mod Look
-pub mod Walking
+pub mod Terms

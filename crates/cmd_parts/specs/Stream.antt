@@ -1,24 +1,71 @@
--- A trunk and its parts that are told of together as they stand one behind the other in a stream.
-use Rattle.std.specs.Prelude.{◌≡◌, ◌⊎◌, ℕ, ◌+◌, List, [], ◌∷◌, ◌++◌, map, Contains, Option, None}
-use Rattle.std.specs.Prelude.{Some, Result, Ok, Err, codes, decimal}
+-- Ledgers that stand one behind the other in a text, told of together.
+use Rattle.std.specs.Prelude.{◌≡◌, ◌≢◌, ℕ, List, [], ◌∷◌, ◌++◌, ⊤, ◌⊎◌, ◌+◌, map, Contains, Option, None, Some, Result, Ok, Err, codes, decimal}
 use Rattle.std.specs.Io.KnownBytes.{Appends, Consumes, IsAtEnd}
-use Rattle.machine_text.specs.Packed.{Packed, entry_of}
-use Rattle.machine_text.specs.Text.{text_of}
-use Rattle.law_tree.specs.Used.{InOrder}
-use Rattle.cert.specs.Claim.{Recorded}
-use Rattle.ledger.specs.Contents.{Contents, IsBoard, IsOpenOn}
-use Rattle.ledger.specs.LedgerText.{ReadsIn}
-use Rattle.ledger.specs.Tally.{AreAll}
-use Rattle.ledger.specs.declared.left.Left.{Left}
-use Rattle.totals.specs.Parts.{AreParts}
-use Rattle.cmd_ledgers.specs.LedgerReport.{EndsLedger}
-use Rattle.cmd_options.specs.Ends.{PrintsNothing}
-use Rattle.cmd_options.specs.Outcome.{ended_line}
+use Rattle.text.specs.Terms.{HasNoNewline, joined}
+use Rattle.ledger.specs.Terms.{header_words, ReadsIn, Contents, IsBoard, IsOpenOn, AreAll}
+use Rattle.ledger.specs.declared.header.Format.{Format}
+use Rattle.cmd_lines.specs.Terms.{AreOneLineEach}
+use Rattle.machine_text.specs.Terms.{Packed, entry_of, text_of}
+use Rattle.law_tree.specs.Terms.{InOrder}
+use Rattle.cert.specs.Terms.{Recorded}
+use Rattle.ledger.specs.declared.loading.Left.{Left}
+use Rattle.totals.specs.Terms.{AreParts}
+use Rattle.cmd_ledgers.specs.Terms.{EndsLedger}
+use Rattle.cmd_options.specs.Terms.{PrintsNothing, ended_line}
 use Rattle.cmd_options.specs.declared.ended.Ended.{Ended}
 use Rattle.cmd_options.specs.declared.ended.Ended.TheVariants.{BadHeader, Stream, WrongRoot}
-use Rattle.cmd_options.specs.declared.outcome.Outcome.{Outcome}
+use Rattle.cmd_options.specs.declared.ended.Outcome.{Outcome}
 use Rattle.cmd_parts.specs.Join.{TellsParts, counted_part, is_silent, left_line, line_behind}
-use Rattle.cmd_parts.specs.Ledgers.{AreLedgers, BeginsWithLedgers}
+
+-- Ledgers that stand one behind the other in a text: each goes up to the next line that begins as a header does.
+
+-- a text begins as a header does, in a version
+abbrev pub IsHead : List ℕ → Type 0
+IsHead text = (format : Format) × (more : List ℕ) × (text ≡ header_words format ++ more)
+
+-- none of these lines does
+abbrev pub AreNoHeads : List (List ℕ) → Type 0
+AreNoHeads [] = ⊤
+AreNoHeads (line ∷ lines) = (IsHead line → ⊥) × AreNoHeads lines
+
+-- none behind the first one does
+abbrev pub AreOfOne : List (List ℕ) → Type 0
+AreOfOne [] = ⊤
+AreOfOne (line ∷ lines) = AreNoHeads lines
+
+-- a ledger that another one follows: whole lines
+pub record IsWholeLedger (text : List ℕ) : Type 0 where
+  pub lines : List (List ℕ)
+  pub some : lines ≢ []
+  pub is : text ≡ joined lines
+  pub are_lines : AreOneLineEach lines
+  pub one : AreOfOne lines
+
+-- the ledger that none follows: its last line may have no newline
+pub record IsLastLedger (text : List ℕ) : Type 0 where
+  pub lines : List (List ℕ)
+  pub last : List ℕ
+  pub is : text ≡ joined lines ++ last
+  pub are_lines : AreOneLineEach lines
+  pub one_line : HasNoNewline last
+  pub one : AreOfOne (lines ++ last ∷ [])
+
+-- a text begins with these ledgers, behind which the rest stands
+abbrev pub BeginsWithLedgers : List ℕ → List (List ℕ) → List ℕ → Type 0
+BeginsWithLedgers text [] rest = text ≡ rest
+BeginsWithLedgers text (ledger ∷ ledgers) rest =
+    (behind : List ℕ) × (text ≡ ledger ++ behind) × IsWholeLedger ledger × IsHead behind
+    × BeginsWithLedgers behind ledgers rest
+
+-- a text is these ledgers; whatever it is, it is one at least
+pub record AreLedgers (text : List ℕ) (ledgers : List (List ℕ)) : Type 0 where
+  pub whole : List (List ℕ)
+  pub last : List ℕ
+  pub are_all : ledgers ≡ whole ++ last ∷ []
+  pub begins : BeginsWithLedgers text whole last
+  pub is_last : IsLastLedger last
+
+-- A trunk and its parts that are told of together as they stand one behind the other in a stream.
 
 -- a text is loaded as a board, whose root names its states in order, up to what is left
 pub record IsLoadedAs (text : List ℕ) (b : Contents) (left : Left) : Type 0 where

@@ -1,22 +1,18 @@
--- For the code: tables with few filled entries, and parts that are added to a whole one after another.
-pub mod Looking
-pub mod Taking
-pub mod Joining
-pub mod Walking
+-- For the code: tables with few filled entries, parts that are added to a whole, and a walk whose records a decider answered.
 use Rattle.std.specs.Prelude.{◌≡◌, ℕ, Bool, false, List, [], ◌++◌, Option, None, Some, Ok, nat_lt}
 use Rattle.std.specs.List.{All}
 use Rattle.std.specs.Io.KnownBytes.{Appends}
-use Rattle.machine_text.specs.Packed.{Packed}
-use Rattle.machine_text.specs.Text.{text_of}
-use Rattle.cert.specs.Claim.{Recorded}
-use Rattle.ledger.specs.Contents.{Contents}
-use Rattle.ledger.specs.LedgerText.{ledger_text}
-use Rattle.wire.specs.Device.{grown}
-use Rattle.totals.specs.Parts.{joined_with}
-use Rattle.totals.specs.Whole.{AddGives, Collected, IsWhole}
+use Rattle.machine_text.specs.Terms.{Packed, text_of}
+use Rattle.cert.specs.Terms.{Recorded}
+use Rattle.ledger.specs.Terms.{Contents, ledger_text}
+use Rattle.wire.specs.Terms.{grown}
+use Rattle.totals.specs.Terms.{joined_with, AddGives, Collected, IsWhole, IsAnswered, IsWalked, Walked}
 use Rattle.cmd_parts.specs.Join.{AreMet, Findings, is_silent, record_lines}
-use Rattle.cmd_parts.specs.Settling.{filled_count}
-use Rattle.cmd_parts.specs.Split.{path_within}
+use Rattle.cmd_parts.specs.Settle.{filled_count, path_within}
+use Rattle.cmd_ledgers.specs.Terms.{IsToldOf}
+use Rattle.cmd_ledgers.specs.declared.board_report.Told.{Told}
+-- For the code: tables with few filled entries, and parts that are added to a whole one after another.
+pub mod Joining
 
 abbrev pub is_below : ℕ → Packed → Bool
 is_below limit t = nat_lt (filled_count t) limit
@@ -76,3 +72,17 @@ pub record SaysMet (Finds : Findings) (folder : List ℕ) (roots : List Packed)
   pub lines : List ℕ
   pub are_met : AreMet Finds folder met parts lines
   pub says : Appends faults new_faults lines
+
+-- A walk whose records a decider answered, and what is told of it.
+
+-- it tells of records of the tree of a root that a decider answered
+pub record IsOfAnswers (D : Type 0) (answers : D → Packed → Recorded → Type 0) (root : Packed)
+    (w : Walked) : Type 0 where
+  pub is_root : w.root ≡ root
+  pub records : List Recorded
+  pub are_answers : All (IsAnswered D answers) records
+  pub walked : IsWalked w records
+
+-- it is told of whichever records the walk tells of
+abbrev pub IsToldOfWalk : Walked → Told → Type 0
+IsToldOfWalk w told = (rs : List Recorded) → IsWalked w rs → IsToldOf w.root rs told

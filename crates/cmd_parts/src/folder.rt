@@ -1,13 +1,11 @@
 // A folder of ledgers, one for each part of a tree.
 ghost use Rattle.std.specs.Prelude.{◌≡◌, ◌⊎◌, ℕ, List, codes, IfOk, None, OnErr, OnOk, Some, string_bytes};
-ghost use Rattle.machine_text.specs.Packed.{Packed};
-ghost use Rattle.machine_text.specs.Text.{text_of};
-ghost use Rattle.ledger.specs.Contents.{IsOpenOn};
-ghost use Rattle.ledger.specs.Tally.{AreAll};
-ghost use Rattle.files.specs.Paths.{IsToldStill};
+ghost use Rattle.machine_text.specs.Terms.{Packed, text_of};
+ghost use Rattle.ledger.specs.Terms.{IsOpenOn, AreAll};
+ghost use Rattle.files.specs.Terms.{IsToldStill};
 ghost use Rattle.cmd_parts.specs.AtPaths.{AreBegunAt, IsBegunAt, IsPartBegun, IsSizeAt, LeavesPartAt, LeavesPartsAt};
-ghost use Rattle.cmd_parts.specs.Split.{LeavesBegun, begun_part, path_within};
-ghost use Rattle.wire.specs.Device.{IsBegun, shortened};
+ghost use Rattle.cmd_parts.specs.Settle.{LeavesBegun, begun_part, path_within};
+ghost use Rattle.wire.specs.Terms.{IsBegun, shortened};
 
 use cmd_options::{Durability, Ended, LedgerFile, ended_by};
 use files::{Files, held_at, ledger_at};
@@ -23,7 +21,7 @@ pub(crate) const TRUNK: &str = "trunk";
 /// A folder of ledgers, one for each part of a tree.
 pub trait Folder {
     ghost use Rattle.std.specs.Prelude.{Bool, Result};
-    ghost use Rattle.machine_text.specs.Packed.{Packed};
+    ghost use Rattle.machine_text.specs.Terms.{Packed};
     ghost use Rattle.cmd_options.specs.declared.ended.Ended.{Ended};
 
     /// What may come of looking for the part of a root: whether it is there, or what ends a command that can't see it.
@@ -43,9 +41,9 @@ pub struct FolderAt<'a, H> {
 }
 
 impl<H: Files> Folder for FolderAt<'_, H> {
-    ghost use Rattle.machine_text.specs.Text.{text_of};
+    ghost use Rattle.machine_text.specs.Terms.{text_of};
     ghost use Rattle.cmd_parts.specs.AtPaths.{SeesAt};
-    ghost use Rattle.cmd_parts.specs.Split.{path_within};
+    ghost use Rattle.cmd_parts.specs.Settle.{path_within};
 
     ghost sees = { λ folder root. SeesAt (H.holds folder.host.now (path_within folder.path.now (text_of root))) };
 

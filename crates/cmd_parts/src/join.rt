@@ -1,27 +1,22 @@
 // `bb join`: a trunk and the parts of its tree, told of as one ledger would be that holds the records of all.
 ghost use Rattle.std.specs.Prelude.{◌≡◌, ◌⊎◌, [], ℕ, Contains, IfErr, IfNone, IfOk, IfSome, List, Ok, OnOk, Option, Result, false};
 ghost use Rattle.std.specs.Io.KnownBytes.{Appends};
-ghost use Rattle.ledger.specs.Contents.{Contents, IsOpenOn};
-ghost use Rattle.ledger.specs.Tally.{AreAll};
-ghost use Rattle.ledger.specs.declared.left.Left.TheVariants.{Nothing};
-ghost use Rattle.cmd_options.specs.declared.outcome.Outcome.{Outcome as Outcomes};
+ghost use Rattle.ledger.specs.Terms.{Contents, IsOpenOn, AreAll};
+ghost use Rattle.ledger.specs.declared.loading.Left.TheVariants.{Nothing};
+ghost use Rattle.cmd_options.specs.declared.ended.Outcome.{Outcome as Outcomes};
 ghost use Rattle.cmd_options.specs.declared.ended.Ended.{Ended as Ends};
-ghost use Rattle.cmd_options.specs.Ends.{EndsTold, PrintsNothing};
-ghost use Rattle.cmd_ledgers.specs.Told.{IsToldOf};
-ghost use Rattle.wire.specs.Device.{grown};
-ghost use Rattle.totals.specs.Parts.{joined_with};
-ghost use Rattle.totals.specs.Whole.{AddGives, IsWhole};
-ghost use Rattle.files.specs.Paths.{IsBlank, IsKeptBut};
+ghost use Rattle.cmd_options.specs.Terms.{EndsTold, PrintsNothing};
+ghost use Rattle.cmd_ledgers.specs.Terms.{IsToldOf};
+ghost use Rattle.wire.specs.Terms.{grown};
+ghost use Rattle.totals.specs.Terms.{joined_with, AddGives, IsWhole};
+ghost use Rattle.files.specs.Terms.{IsBlank, IsKeptBut};
 ghost use Rattle.cmd_parts.specs.AtPaths.{JoinsAt, CollectsAt, finds_at};
-ghost use Rattle.cmd_parts.specs.Split.{path_within};
-ghost use Rattle.cmd_parts.specs.Join.{IsMet, IsMetAs, IsMetIn, IsReadAt, TellsAll, TellsParts, WarnsFirst, ended_by, is_silent, left_line, line_behind, record_lines};
-ghost use Rattle.cmd_parts.specs.Gather.{IsGathered};
-ghost use Rattle.cmd_parts.specs.Spared.{IsSpared};
+ghost use Rattle.cmd_parts.specs.Settle.{path_within};
+ghost use Rattle.cmd_parts.specs.Join.{IsMet, IsMetAs, IsMetIn, IsReadAt, TellsAll, TellsParts, WarnsFirst, ended_by, is_silent, left_line, line_behind, record_lines, IsGathered, IsSpared};
 ghost use Rattle.cmd_parts.specs.inside.{AreAdded, AreOthers, CountsMore, MeetsPart, SaysMet};
 
-use crate::collector::{Collector, Nowhere, OneLedger};
 use crate::folder::{TRUNK, part_path, path_within};
-use crate::part_files::{PartLedgers, PartsAt, Written};
+use crate::part_files::{Collector, Nowhere, OneLedger, PartLedgers, PartsAt, Written};
 use cmd_ledgers::{ReportForm, Told, load_from, outcome_by, write_told};
 use cmd_options::{Ended, Joining, Outcome, Stopped, ended_by, told};
 use files::{Files, Opened, lock_ledger, made_for, put_at};

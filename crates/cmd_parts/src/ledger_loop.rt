@@ -1,14 +1,36 @@
-// From the pieces of a stream to its ledgers.
-ghost use Rattle.std.specs.Prelude.{◌≡◌, ◌++◌, ◌∷◌, [], List, ℕ, Option, IfErr, OnOk};
-ghost use Rattle.cmd_options.specs.Ends.{PrintsNothing};
-ghost use Rattle.cmd_parts.specs.inside.Taking.{CutsBefore, HasTaken, HasTakenLedgers, TakesAll, TakesFirstLedgers, TakesMoreLedgers, TakesLedgers};
+// From the pieces of a stream to its ledgers, and who takes them.
+ghost use Rattle.std.specs.Prelude.{◌↔◌, IsTrue, ◌≡◌, ◌++◌, ◌∷◌, [], List, ℕ, Option, IfErr, OnOk};
+ghost use Rattle.cmd_parts.specs.Stream.{IsHead};
+ghost use Rattle.cmd_options.specs.Terms.{PrintsNothing};
+ghost use Rattle.cmd_parts.specs.inside.Joining.{CutsBefore, HasTaken, HasTakenLedgers, TakesAll, TakesFirstLedgers, TakesMoreLedgers, TakesLedgers};
 
-use crate::head::is_head;
-use crate::ledger_taker::LedgerTaker;
 use cmd_options::{Ended, ended_by};
 use std::alloc::Global;
 use std::io::{Read, Write};
 use text::cut;
+
+// Whether a text begins as a header does, in a version.
+pub(crate) fn is_head(text: &[u8]) -> bool
+    ensures { IsTrue result ↔ IsHead text.now }
+{
+    text.starts_with(b"bb-ledger 1 ") || text.starts_with(b"bb-ledger 2 ")
+}
+
+// Takes one ledger's text after another, remembers what it has to of them, and says something to each.
+pub(crate) trait LedgerTaker {
+    ghost use Rattle.std.specs.Prelude.{List, ℕ, IfErr, OnOk};
+    ghost use Rattle.std.specs.Io.KnownBytes.{Appends};
+    ghost use Rattle.cmd_options.specs.Terms.{PrintsNothing};
+
+    // What may be remembered once a ledger was taken, and what is said to it.
+    ghost takes: { Self → List ℕ → Self → List ℕ → Type 0 };
+
+    // Takes a ledger.
+    fn take_ledger<E: Write>(&mut self, text: &[u8], faults: &mut E) -> Result<(), Ended>
+        ensures ok { OnOk result ((said : List ℕ) × takes self.old text.now self.new said
+            × Appends (E.contents faults.old) (E.contents faults.new) said) }
+        ensures err { IfErr result (λ e. PrintsNothing e (E.contents faults.old) (E.contents faults.new)) };
+}
 
 // How many bytes are read at once, at most.
 const PIECE_BYTES: usize = 16_384;

@@ -1,13 +1,12 @@
 // `bb walk`: a tree is walked, and its report written.
 ghost use Rattle.std.specs.Prelude.{◌≡◌, ◌≤◌, ℕ, List, [], Option, Result, IfOk, IfErr};
-ghost use Rattle.machine_text.specs.Limits.{state_limit};
-ghost use Rattle.machine_text.specs.Packed.{empty_table};
-ghost use Rattle.cmd_options.specs.Ends.{EndsTold};
+ghost use Rattle.machine_text.specs.Terms.{state_limit, empty_table};
+ghost use Rattle.cmd_options.specs.Terms.{EndsTold};
 ghost use Rattle.cmd_options.specs.declared.ended.Ended.{Ended as Ends};
-ghost use Rattle.cmd_options.specs.declared.outcome.Outcome.{Outcome as Outcomes};
-ghost use Rattle.cmd_ledgers.specs.Settled.{TellsTree};
-ghost use Rattle.cmd_parts.specs.Walking.{IsWalkedBoard, TellsWalk, WalksTree};
-ghost use Rattle.cmd_parts.specs.inside.Walking.{IsOfAnswers, IsToldOfWalk};
+ghost use Rattle.cmd_options.specs.declared.ended.Outcome.{Outcome as Outcomes};
+ghost use Rattle.cmd_ledgers.specs.Terms.{TellsTree};
+ghost use Rattle.cmd_parts.specs.Settle.{IsWalkedBoard, TellsWalk, WalksTree};
+ghost use Rattle.cmd_parts.specs.inside.{IsOfAnswers, IsToldOfWalk};
 
 use cert::Decider;
 use cmd_ledgers::{ReportForm, Told, outcome_by, write_told};
@@ -27,7 +26,7 @@ const TABLES_BETWEEN: u64 = 1_024;
 /// board which would hold all its records, on which no table is open. Accepted where that board is complete. What ends the
 /// command early is said on `faults`: a root that doesn't name its states in order, refused memory, which a number that
 /// would need more than 64 bits is too, and a stream that failed.
-#[tactic(auto, using(cmd_ledgers::proofs::Settling::tells))]
+#[tactic(auto, using(cmd_ledgers::proofs::TreeReports::tells))]
 pub fn cmd_walk<P: ReportForm, D: Decider, T: Progress, W: Write, E: Write>(
     alloc: Global,
     form: &P,

@@ -1,5 +1,1 @@
-pub mod VisitLaws
-mod Endings
-mod Paths
-mod Turns
-pub mod WholeLines
+pub mod PictureLaws

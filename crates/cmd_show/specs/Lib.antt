@@ -1,11 +1,4 @@
-pub mod Times
-pub mod Visits
-pub mod Asked
 pub mod Shown
-pub mod WholeLines
-pub mod Picture
-pub mod Placing
-pub mod Files
-pub mod One
-pub mod Said
+pub mod Drawn
 pub mod inside
+pub mod Terms

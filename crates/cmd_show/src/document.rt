@@ -1,14 +1,66 @@
-// A picture as an SVG document.
-ghost use Rattle.std.specs.Prelude.{◌≡◌, ◌+◌, ◌*◌, ◌++◌, ◌<◌, ◌≤◌, ◌^◌, IfOk, OnOk};
-ghost use Rattle.machine_text.specs.Limits.{state_limit};
-ghost use Rattle.cmd_show.specs.Picture.{IsPictureOf, document, heading, opening};
+// A picture as an SVG document, and how large it is made.
+ghost use Rattle.std.specs.Prelude.{◌≡◌, ◌*◌, ◌/◌, ◌≤◌, max, min, ◌+◌, ◌++◌, ◌<◌, ◌^◌, IfOk, OnOk};
+ghost use Rattle.machine_text.specs.Terms.{state_limit};
+ghost use Rattle.cmd_show.specs.Drawn.{IsPictureOf, document, heading, opening};
 
-use crate::drawn::{Drawn, Head, append_columns};
-use crate::pixels::Pixels;
-use crate::style::STYLE;
+use crate::picture_rows::{Drawn, Head, append_columns};
+use cmd_options::Drawing;
 use machine_text::{TEXT_BYTES, Table};
 use std::alloc::{AllocError as NoMemory, Global};
 use std::io::Write;
+
+// Behind a document's title: the colours, and what stands behind the rows. Ones are dark on a light ground, or light on a
+// dark one, as the reader has it. The colours of the seven states, of pale columns and of the line have a contrast of 3:1 to
+// both grounds and to ones on both, and are told apart also by people who don't see red, green or blue.
+pub(crate) const STYLE: &[u8] =
+    b"</title>\n<style>.ground{fill:#fff}.dark{fill:#000}.pale{fill:#808080}.s0{fill:#e66950}.s1{fill:#195feb}.s2{fill:#696400}.s3{fill:#d76ebe}.s4{fill:#2391fa}.s5{fill:#a52daa}.s6{fill:#c3870f}.halt{stroke:#a04b46;stroke-width:2px;vector-effect:non-scaling-stroke}.letter{fill:#000;font:12px sans-serif}@media(prefers-color-scheme:dark){.ground{fill:#111}.dark,.letter{fill:#fff}}</style>\n<rect class='ground' width='100%' height='100%'/>\n";
+
+// The most pixels of a side of a picture whose columns and rows aren't one pixel each.
+const MAX_SIDE: u64 = 1000;
+
+// The most pixels that a picture is made high.
+const MAX_HEIGHT: u64 = 65_535;
+
+// How many pixels a column is wide, and a row high: one at least.
+#[derive(Clone, Copy)]
+pub(crate) struct Pixels {
+    pub(crate) across: u64,
+    pub(crate) down: u64,
+}
+
+impl Pixels {
+    // As many as are asked for of so many columns and rows, as long as no side is longer than it may be.
+    pub(crate) fn of(drawing: &Drawing<'_>, columns: u64, rows: u64) -> Pixels
+        ensures across { columns * result.across ≤ max columns 65535 }
+        ensures down { rows * result.down ≤ max rows 65535 }
+    {
+        match drawing.height {
+            None => {
+                let side = pixels_each(drawing.square, MAX_SIDE, columns.max(rows));
+                Pixels {
+                    across: side,
+                    down: side,
+                }
+            }
+            Some(height) => Pixels {
+                across: pixels_each(drawing.square, MAX_SIDE, columns),
+                down: pixels_each(height, height.min(MAX_HEIGHT), rows),
+            },
+        }
+    }
+
+    // Whether a cell has room for a mark beside its own colour.
+    pub(crate) fn has_room(&self) -> bool {
+        self.across >= 3 && self.down >= 3
+    }
+}
+
+// So many pixels that n of them make no more than a limit, at most so many, and one at least.
+fn pixels_each(most: u64, limit: u64, n: u64) -> u64
+    ensures { result ≡ max 1 (min most (limit / max n 1)) }
+{
+    most.min(limit / n.max(1)).max(1)
+}
 
 // The document of what is drawn of a table, in so many pixels. Its title is the table's text; a line beneath the last row
 // says that the machine halts there, and beneath that stands which colour is which state.
@@ -35,7 +87,7 @@ pub(crate) fn picture(
 }
 
 // Appends the document of a table that is so wide and so high, around what is drawn.
-#[tactic(auto, unfolding(crate::specs::Picture::document))]
+#[tactic(auto, unfolding(crate::specs::Drawn::document))]
 fn append_document(
     t: &Table,
     width: u64,
@@ -51,7 +103,7 @@ fn append_document(
 }
 
 // Appends what stands before the rows.
-#[tactic(auto, unfolding(crate::specs::Picture::heading))]
+#[tactic(auto, unfolding(crate::specs::Drawn::heading))]
 fn append_heading(t: &Table, width: u64, height: u64, out: &mut Vec<u8>) -> Result<(), NoMemory>
     ensures { OnOk result (out.new.items ≡ out.old.items ++ heading t.now width height) }
 {
@@ -62,7 +114,7 @@ fn append_heading(t: &Table, width: u64, height: u64, out: &mut Vec<u8>) -> Resu
 }
 
 // Appends the beginning of a document that is so wide and so high, up to its title.
-#[tactic(auto, unfolding(crate::specs::Picture::opening))]
+#[tactic(auto, unfolding(crate::specs::Drawn::opening))]
 fn append_opening(width: u64, height: u64, out: &mut Vec<u8>) -> Result<(), NoMemory>
     ensures { OnOk result (out.new.items ≡ out.old.items ++ opening width height) }
 {

@@ -1,7 +1,16 @@
-// Which cells are drawn.
-ghost use Rattle.std.specs.Prelude.{◌≡◌, ◌<◌};
+// Which cells are drawn, and the picture of a table as it is asked for.
+ghost use Rattle.std.specs.Prelude.{◌≡◌, ◌<◌, IfOk};
+ghost use Rattle.cmd_show.specs.Drawn.{IsPictureOf, IsOneTableAPath};
+ghost use Rattle.cmd_show.specs.Shown.{AreWithinRuns};
 
-use crate::span::Span;
+use crate::document::{Pixels, picture};
+use crate::picture_rows::Drawn;
+use crate::rows::{Rows, Times};
+use crate::visits::{Span, placement};
+use cmd_options::Drawing;
+use machine_text::Table;
+use std::alloc::Global;
+use tape::NoMemory;
 
 // Which cells are drawn, and how many of them share a column of the picture.
 #[derive(Clone, Copy)]
@@ -110,3 +119,46 @@ impl View {
         }
     }
 }
+
+// The picture of a table's run from the blank tape, as an SVG document: at the times and of the cells that are asked for.
+pub(crate) fn picture_of(
+    alloc: Global,
+    t: &Table,
+    drawing: &Drawing<'_>,
+) -> Result<Vec<u8>, NoMemory>
+    ensures { IfOk result (λ text. IsPictureOf t.now text.items) }
+{
+    let times = times_of(drawing);
+    let view = view_of(alloc, t, times, drawing)?;
+    let rows = Rows::new(alloc, *t, times)?;
+    let drawn = Drawn::of(alloc, rows, &view)?;
+    let pixels = Pixels::of(drawing, drawn.columns, drawn.rows);
+    picture(alloc, t, &drawn, pixels)
+}
+
+// The times that are drawn.
+fn times_of(drawing: &Drawing<'_>) -> Times
+    ensures { AreWithinRuns result }
+{
+    // Each step makes one row, where it isn't said how many there are.
+    let steps = drawing.steps.unwrap_or(drawing.rows.max(1) - 1);
+    Times::new(drawing.from, steps, 1).in_rows(drawing.rows)
+}
+
+// The cells that are drawn: so many, or those that the head visits.
+fn view_of(alloc: Global, t: &Table, times: Times, drawing: &Drawing<'_>) -> Result<View, NoMemory>
+    requires { AreWithinRuns times }
+    ensures { IfOk result (λ view. 0 < view.share) }
+{
+    if drawing.width == 0 {
+        let visited = placement(alloc, *t, times)?;
+        Ok(View::of(visited, drawing.columns))
+    } else {
+        Ok(View::centred(drawing.width, drawing.columns))
+    }
+}
+
+/// In one folder no two tables have one path, so no picture is put over that of another table.
+pub fn paths_are_apart()
+    ensures { IsOneTableAPath }
+{}

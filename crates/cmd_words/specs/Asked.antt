@@ -1,10 +1,20 @@
--- What the words of a command line ask for: of each command, each option is what clap's matches give under its name.
-use Rattle.std.specs.Prelude.{◌≡◌, ℕ, Bool, true, ⊤, List, [], map, Option, Some, None, codes, unwrap_or}
-use Rattle.clap.specs.Words.{App, Row, all_of, first_of, is_simple, subcommand_of}
+-- What the words of a command line ask for, by what clap gives of each option, and how one ends that asks for nothing.
+use Rattle.std.specs.Prelude.{◌≡◌, ◌⊎◌, ◌==◌, ◌&&◌, ◌*◌, ◌^◌, ℕ, Bool, true, false, not, if◌then◌else◌, List, [], ◌∷◌, ◌++◌, filter, Option, Some, None, codes, cond, option_map, unwrap_or, ⊤, map}
+use Rattle.std.specs.Str.Parse.{AllDigits, IsNumeral as IsDigits, digits_value, digits_value_after, without_leading_plus}
+use Rattle.std.specs.Borrow.{Bor}
+use Rattle.clap.specs.Words.{Row, first_of, found_of, one_of, rows_of, kind_of, App, all_of, is_simple, subcommand_of}
+use Rattle.clap.specs.declared.parser.matches.ArgMatches.{ArgMatches}
+use Rattle.cmd_options.specs.declared.writing.LedgerFile.{LedgerFile}
+use Rattle.cmd_options.specs.declared.writing.Durability.TheVariants.{Disk, System}
+use Rattle.clap.specs.declared.error.Error.{Error}
+use Rattle.clap.specs.declared.error.kind.ErrorKind.TheVariants.{DisplayHelp, DisplayVersion}
+use Rattle.cmd_options.specs.declared.ended.Outcome.{Outcome}
+use Rattle.cmd_options.specs.declared.ended.Outcome.TheVariants.{Accepted, BadLine, NoMemory, Failed}
+use Rattle.cmd_words.specs.declared.line_fault.LineFault.{LineFault}
+use Rattle.cmd_words.specs.declared.line_fault.LineFault.TheVariants.{Refused, PathForNumber, NoNumber, FileForInput, FileForLine, Unquoted, TwoSources, LedgerOfStream, OpenToAll, NoTree, SyncOfNothing, NotText, NoSuchCommand, OutOfRange, KnownFromInput, OutputToDash, NoMemory as WantsMemory}
 use Rattle.cmd_options.specs.declared.options.Options.{Options}
 use Rattle.cmd_options.specs.declared.options.Options.TheVariants.{Check, Decide, Explain, Show, Tables, Coord, CoordPart, Work, Run, Loop, Retry, Merge, Carry, Mend, Split, Settle, Walk, Join, Look, Draw, Page, Report}
-use Rattle.cmd_options.specs.declared.drawing.Drawing.{Drawing}
-use Rattle.cmd_options.specs.declared.ledger_file.LedgerFile.{LedgerFile}
+use Rattle.cmd_options.specs.declared.options.Drawing.{Drawing}
 use Rattle.cmd_options.specs.declared.options.Beginning.{Beginning}
 use Rattle.cmd_options.specs.declared.options.Listening.{Listening}
 use Rattle.cmd_options.specs.declared.options.PartCoordinating.{PartCoordinating}
@@ -13,10 +23,123 @@ use Rattle.cmd_options.specs.declared.options.Search.{Search}
 use Rattle.cmd_options.specs.declared.options.Settling.{Settling}
 use Rattle.cmd_options.specs.declared.options.Walking.{Walking}
 use Rattle.cmd_options.specs.declared.options.Working.{Working}
-use Rattle.cmd_words.specs.Given.{IsArgument, IsFlag, IsLedger, IsNumber, IsNumberIf, IsNumberOr, IsStates, IsTextIf, IsWrittenAt}
-use Rattle.cmd_words.specs.declared.sourcing.Source.{Source}
-use Rattle.cmd_words.specs.declared.sourcing.Source.TheVariants.{Standard, File, Lines}
+use Rattle.cmd_words.specs.declared.words.Source.{Source}
+use Rattle.cmd_words.specs.declared.words.Source.TheVariants.{Standard, File, Lines}
 
+-- The words that are numbers: 1000000, 1_000_000 and 1e6.
+
+-- the digits of a text, behind a plus or none, are this number
+abbrev pub IsDecimal : List ℕ → ℕ → Type 0
+IsDecimal text n = IsDigits 10 (without_leading_plus text) × (n ≡ digits_value 10 (without_leading_plus text))
+
+-- a text without each `_`
+abbrev pub ungrouped : List ℕ → List ℕ
+ungrouped = filter (λ byte. not (byte == 95))
+
+-- each `_` of a text stands between two digits; before the text stands a digit, or none
+unfoldable pub are_between : Bool → List ℕ → Bool
+are_between after_digit [] = after_digit
+are_between after_digit (byte ∷ rest) =
+    if byte == 95 then after_digit && are_between false rest else are_between true rest
+
+-- with what was read before it, the number is this one
+abbrev pub ReadsOn : ℕ → Bool → List ℕ → ℕ → Type 0
+ReadsOn number after_digit text n =
+    (are_between after_digit text ≡ true) × AllDigits 10 (ungrouped text)
+    × (n ≡ digits_value_after 10 number (ungrouped text))
+
+-- digits, with a `_` between some of them
+abbrev pub IsGrouped : List ℕ → ℕ → Type 0
+IsGrouped text n = (are_between false text ≡ true) × AllDigits 10 (ungrouped text)
+    × (n ≡ digits_value 10 (ungrouped text))
+
+-- digits, an `e` and digits
+abbrev pub IsScaled : List ℕ → ℕ → Type 0
+IsScaled text n =
+    (front : List ℕ) × (back : List ℕ) × (text ≡ front ++ 101 ∷ back)
+    × (a : ℕ) × IsDecimal front a × (e : ℕ) × IsDecimal back e × (n ≡ a * 10 ^ e)
+
+abbrev pub IsNumeral : List ℕ → ℕ → Type 0
+IsNumeral text n = IsDecimal text n ⊎ IsGrouped text n ⊎ IsScaled text n
+
+-- What clap's matches give of an option or an argument, by its name.
+
+-- what was found for each argument and option of a command
+abbrev pub rows_found : ArgMatches → List Row
+rows_found matches = rows_of (found_of matches)
+
+-- a number of states in an argument that may be a path
+abbrev pub IsStates : List Row → List ℕ → ℕ → Type 0
+IsStates rows name n = (word : List ℕ) × (first_of name rows ≡ Some word) × IsDecimal word n
+
+abbrev pub IsNumber : List Row → List ℕ → ℕ → Type 0
+IsNumber rows name n = (text : List ℕ) × (first_of name rows ≡ Some text) × IsNumeral text n
+
+-- of a number that may be left out
+abbrev pub IsNumberIf : List Row → List ℕ → Option ℕ → Type 0
+IsNumberIf rows name None = first_of name rows ≡ None
+IsNumberIf rows name (Some n) = IsNumber rows name n
+
+-- and of one that is this where it is left out
+abbrev pub IsNumberOr : List Row → List ℕ → ℕ → ℕ → Type 0
+IsNumberOr rows name other n = (given : Option ℕ) × IsNumberIf rows name given × (n ≡ unwrap_or given other)
+
+abbrev pub IsTextIf : List Row → List ℕ → Option (Bor (List ℕ)) → Type 0
+IsTextIf rows name given = option_map (λ text. text.now) given ≡ first_of name rows
+
+-- of a text that has to be given
+abbrev pub IsArgument : List Row → List ℕ → Bor (List ℕ) → Type 0
+IsArgument rows name given = given.now ≡ unwrap_or (first_of name rows) []
+
+pub record IsFlag (rows : List Row) (name : List ℕ) (given : Bool) : Type 0 where
+  pub none : one_of name rows ≡ None → given ≡ false
+  pub yes : one_of name rows ≡ Some (codes "true") → given ≡ true
+  pub no : one_of name rows ≡ Some (codes "false") → given ≡ false
+
+-- a ledger that is written at a path: on the disk, where that is asked for
+pub record IsWrittenAt (rows : List Row) (at : Option (List ℕ)) (file : LedgerFile) : Type 0 where
+  pub path : Some file.path.now ≡ at
+  pub sync : Bool
+  pub is_sync : IsFlag rows (codes "sync") sync
+  pub durability : file.durability ≡ cond sync Disk System
+
+-- the ledger of `--ledger`, where one is named
+abbrev pub IsLedger : List Row → Option LedgerFile → Type 0
+IsLedger rows None = first_of (codes "ledger") rows ≡ None
+IsLedger rows (Some file) = IsWrittenAt rows (first_of (codes "ledger") rows) file
+
+-- How a command line ends that asks for nothing.
+
+-- memory was refused, or a stream failed when the fault was to be said
+abbrev pub EndsGravely : Outcome → Type 0
+EndsGravely o = (o ≡ NoMemory) ⊎ (o ≡ Failed)
+
+-- what clap refuses because help or the version is asked for
+abbrev pub IsAskedFor : Error → Type 0
+IsAskedFor told = (kind_of told ≡ DisplayHelp) ⊎ (kind_of told ≡ DisplayVersion)
+
+-- a wrong line ends as one; help and the version are answered
+abbrev pub EndsUnread : LineFault → Outcome → Type 0
+EndsUnread (Refused told) o = (IsAskedFor told × (o ≡ Accepted)) ⊎ ((IsAskedFor told → ⊥) × (o ≡ BadLine))
+    ⊎ EndsGravely o
+EndsUnread (PathForNumber text) o = (o ≡ BadLine) ⊎ EndsGravely o
+EndsUnread (NoNumber text) o = (o ≡ BadLine) ⊎ EndsGravely o
+EndsUnread (FileForInput told) o = (o ≡ BadLine) ⊎ EndsGravely o
+EndsUnread FileForLine o = (o ≡ BadLine) ⊎ EndsGravely o
+EndsUnread Unquoted o = (o ≡ BadLine) ⊎ EndsGravely o
+EndsUnread TwoSources o = (o ≡ BadLine) ⊎ EndsGravely o
+EndsUnread LedgerOfStream o = (o ≡ BadLine) ⊎ EndsGravely o
+EndsUnread OpenToAll o = (o ≡ BadLine) ⊎ EndsGravely o
+EndsUnread NoTree o = (o ≡ BadLine) ⊎ EndsGravely o
+EndsUnread SyncOfNothing o = (o ≡ BadLine) ⊎ EndsGravely o
+EndsUnread NotText o = (o ≡ BadLine) ⊎ EndsGravely o
+EndsUnread NoSuchCommand o = (o ≡ BadLine) ⊎ EndsGravely o
+EndsUnread (OutOfRange number) o = (o ≡ BadLine) ⊎ EndsGravely o
+EndsUnread KnownFromInput o = (o ≡ BadLine) ⊎ EndsGravely o
+EndsUnread OutputToDash o = (o ≡ BadLine) ⊎ EndsGravely o
+EndsUnread WantsMemory o = EndsGravely o
+
+-- What the words of a command line ask for: of each command, each option is what clap's matches give under its name.
 pub record AsksSearch (rows : List Row) (s : Search) : Type 0 where
   pub known : IsTextIf rows (codes "known") s.known
   pub steps : IsNumber rows (codes "steps") s.steps

@@ -1,4 +1,2 @@
-pub mod Unread
-pub mod Numerals
-pub mod Given
 pub mod Asked
+pub mod Terms

@@ -1,16 +1,13 @@
 // From the words of a command line to what they ask for.
 ghost use Rattle.std.specs.Prelude.{◌≡◌, IfOk, codes, map};
-ghost use Rattle.cmd_options.specs.Ranges.{AreWithinRanges};
-ghost use Rattle.cmd_words.specs.Asked.{AskFor, AskLenient, AskSource, AskWhy, AsksFor, IsSource};
-ghost use Rattle.cmd_words.specs.Given.{IsFlag, rows_found};
+ghost use Rattle.cmd_options.specs.Terms.{AreWithinRanges};
+ghost use Rattle.cmd_words.specs.Asked.{AskFor, AskLenient, AskSource, AskWhy, AsksFor, IsSource, IsFlag, rows_found};
 
 use crate::arguments::{LENIENT, WHY};
 use crate::grammar::program;
 use crate::line_fault::LineFault;
-use crate::numbers::no_number;
 use crate::reading::{asked, flag_of};
-use crate::sourcing::{Source, source_of};
-use crate::writing::written_by;
+use crate::words::{Source, no_number, source_of, written_by};
 use clap::error::ErrorKind;
 use clap::{ArgMatches, Error};
 use cmd_options::{NoMemory, Options};

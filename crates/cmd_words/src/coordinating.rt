@@ -1,17 +1,16 @@
 // The options of `bb coord`.
 ghost use Rattle.std.specs.Prelude.{◌≡◌, ◌≤◌, IfOk, IfSome, codes};
 ghost use Rattle.clap.specs.Words.{first_of};
-ghost use Rattle.cmd_options.specs.Ranges.{AreWithinRanges, IsBeginning, IsListening};
-ghost use Rattle.cmd_words.specs.Asked.{AsksFor, AsksListeningIf};
-ghost use Rattle.cmd_words.specs.Given.{IsNumber, IsStates, rows_found};
+ghost use Rattle.cmd_options.specs.Terms.{AreWithinRanges, IsBeginning, IsListening};
+ghost use Rattle.cmd_words.specs.Asked.{AsksFor, AsksListeningIf, IsNumber, IsStates, rows_found};
 
-use crate::addresses::is_reachable;
 use crate::arguments::{
     ACCEPT_HOLDOUTS, COORDINATED, ERA, JSON, LEDGER, LISTEN, OPEN, PER_ADDRESS, PROGRESS, SYNC,
     TOKEN,
 };
 use crate::line_fault::LineFault;
 use crate::reading::{flag_of, ledger_of, number_of, text_of, written_of};
+use crate::words::is_reachable;
 use clap::ArgMatches;
 use cmd_options::{Beginning, Listening, Options, PartCoordinating};
 

@@ -1,12 +1,9 @@
-//! The words of a command line, read by clap: what they ask for, and what the program answers where they ask for
-//! nothing.
+//! The words of a command line, read by clap. What loads clap is slow to check, so the crate is as small as will do.
 //!
-//! What loads clap is slow to check, so this crate has as little code as will do. The ranges of the
-//! options' numbers are in `specs/Ranges` of `cmd_options`; `specs/Unread` has how a command line ends that can't
-//! be read.
+//! `specs/Asked` says what the words ask for, what clap gives of an option, and how a command line ends that asks for
+//! nothing. The ranges of the options' numbers are in `cmd_options`.
 #![tactic(auto)]
 
-mod addresses;
 mod arguments;
 mod asking;
 mod commands;
@@ -14,12 +11,9 @@ mod coordinating;
 mod grammar;
 mod help;
 mod line_fault;
-mod numbers;
 mod reading;
-mod sourcing;
 mod words;
-mod writing;
 
 pub use asking::{CommandLine, command_line, options};
 pub use line_fault::LineFault;
-pub use sourcing::Source;
+pub use words::Source;

@@ -1,5 +1,5 @@
 // Why a command line asks for nothing, and the answer to it.
-ghost use Rattle.cmd_words.specs.Unread.{EndsUnread};
+ghost use Rattle.cmd_words.specs.Asked.{EndsUnread};
 
 use clap::Error;
 use clap::error::ErrorKind;

@@ -1,14 +1,12 @@
 // From what clap made of the words to the options.
 ghost use Rattle.std.specs.Prelude.{◌≡◌, ◌≤◌, IfOk, IfSome, codes};
-ghost use Rattle.cmd_options.specs.Ranges.{AreWithinRanges, IsSettling, IsWithinRange};
-ghost use Rattle.cmd_words.specs.Asked.{AsksFor, AsksFile, AsksSaving, AsksSearch, AsksSettling};
-ghost use Rattle.cmd_words.specs.Given.{IsArgument, IsFlag, IsLedger, IsNumber, IsNumberIf, IsNumberOr, IsTextIf, IsWrittenAt, rows_found};
+ghost use Rattle.cmd_options.specs.Terms.{AreWithinRanges, IsSettling, IsWithinRange};
+ghost use Rattle.cmd_words.specs.Asked.{AsksFor, AsksFile, AsksSaving, AsksSearch, AsksSettling, IsArgument, IsFlag, IsLedger, IsNumber, IsNumberIf, IsNumberOr, IsTextIf, IsWrittenAt, rows_found};
 
 use crate::arguments::*;
 use crate::coordinating::coord_options;
 use crate::line_fault::LineFault;
-use crate::numbers::number_read;
-use crate::words::{Flag, Text};
+use crate::words::{Flag, Text, number_read};
 use clap::ArgMatches;
 use cmd_options::{
     COUNT, Carrying, Checking, DEPTH, Deciding, Drawing, Durability, Explaining, FAR, GRAM,

@@ -1,14 +1,17 @@
--- Numbers in hexadecimal, digit by digit.
+-- Numbers are read from texts in hexadecimal and written so, digit by digit and text by text.
 use Rattle.std.proofs.Common.{◌≡◌, ℕ, zero, suc, ◌+◌, ◌-◌, ◌*◌, ◌/◌, ◌%◌, ◌^◌, ◌<◌, ◌≤◌, ◌⊎◌, inl, inr, cond, List, [], ◌∷◌, ◌++◌, length, take, drop, get_or, map, set, refl, sym, ◌∙◌, ap, subst, arith}
 use Rattle.std.specs.Int.Digits.{digits_of, number_from_digits, AllBelowBase}
 use Rattle.std.proofs.lemmas.Bool.{cases_eq, ne_eqb}
-use Rattle.std.proofs.lemmas.List.{take_more, take_all, get_or-map, length-map, map-append, take-append-drop, append_assoc, drop-set-lt, drop_all, get_or-set_same, length-set}
+use Rattle.std.proofs.lemmas.List.{take_more, take_all, get_or-map, length-map, map-append, take-append-drop, append_assoc, drop-set-lt, drop_all, get_or-set_same, length-set, take_more_set, length-drop}
 use Rattle.std.proofs.Math.Seq.{drop-cons}
 use Rattle.std.proofs.lemmas.Int.Digits.{digits_of_step, length-digits_of_step, length-digits_of-le, number_push, number_after_append, number_after_ge, all_below_base_digits_of, first_digits_of}
-use Rattle.far.specs.Limits.{word_bits, pair_limit}
-use Rattle.far.specs.Texts.{hex_glyph, hex_value, hex_text, hex_worth, IsDigit, IsHex}
-use Rattle.far.proofs.RoundTrip.{text_of_some, text_of_none, value_back, digit_back}
-use Rattle.far.specs.inside.Reading.{IsWorth, IsWritten}
+use Rattle.far.specs.Limits.{word_bits, pair_limit, move_limit, row_limit}
+use Rattle.far.specs.Texts.{hex_glyph, hex_value, hex_text, hex_worth, IsDigit, IsHex, IsDelta, IsRows, delta_of, rows_of}
+use Rattle.far.proofs.Written.{text_of_some, text_of_none, value_back, digit_back}
+use Rattle.far.specs.inside.Reading.{IsWorth, IsWritten, AreMoves, AreEdges}
+use Rattle.text.specs.Terms.{parts_of}
+
+-- Numbers in hexadecimal, digit by digit.
 
 -- one digit more
 pub worth_more : (text : List ℕ) (i : ℕ) → i < length text → hex_worth (take (i + 1) text) ≡ 16 * hex_worth (take i text) + hex_value (get_or text i 0)
@@ -180,3 +183,50 @@ pub written_all : (number at : ℕ) (buf : List ℕ) → 0 < number → IsWritte
 unfolding hex_text
 written_all number at buf some w =
     w.digits ∙ ap (λ b. cond b (48 ∷ []) (map hex_glyph (digits_of 16 number))) (sym (ne_eqb number 0 (λ none. omega arith)))
+
+-- Texts that are read number by number.
+
+-- all of them
+pub moves_all : (size : ℕ) (text : List ℕ) (delta : List ℕ) → length text ≡ 2 * size → AreMoves size text (2 * size) delta → (take (2 * size) delta ≡ delta_of text) × IsDelta size text × (length delta ≡ move_limit)
+moves_all size text delta long m = (m.same ∙ ap delta_of (take_all (2 * size) text (omega arith)), record { count = long; each = m.each }, m.length_is)
+
+-- what is left of a list begins with its next element
+next_part : (parts : List (List ℕ)) (part : List ℕ) (rest : List (List ℕ)) (k : ℕ) → part ∷ rest ≡ drop k parts → (k < length parts) × (part ≡ get_or parts k []) × (rest ≡ drop (k + 1) parts)
+next_part [] part rest zero is = absurd (cc)
+next_part [] part rest (suc k) is = absurd (cc)
+next_part (p ∷ ps) part rest zero is = (omega arith, (cc), (cc))
+next_part (p ∷ ps) part rest (suc k) is = let (less, same, rest_is) = next_part ps part rest k is in (omega arith, same, rest_is ∙ ap (λ i. drop i (p ∷ ps)) (let e : suc (k + 1) ≡ suc k + 1 = omega arith in e))
+
+-- one row more
+pub edges_more : (limit : ℕ) (text : List ℕ) (k : ℕ) (left rest : List (List ℕ)) (rows part : List ℕ) (number : ℕ) → k < row_limit → left ≡ part ∷ rest → number ≡ hex_worth part → IsHex limit part → AreEdges limit text k left rows
+    → AreEdges limit text (k + 1) rest (set rows k number)
+edges_more limit text k left rest rows part number room is worth hex e =
+    let (less, same, rest_is) = next_part (parts_of 44 text) part rest k (sym is ∙ e.left_is) in
+    let long = e.length_is in
+    record {
+      left_is = rest_is;
+      there = omega arith;
+      length_is = length-set rows k number ∙ e.length_is;
+      same = take_more_set rows k number (omega arith) ∙ ap (λ xs. xs ++ number ∷ []) e.same
+          ∙ ap (λ n. map hex_worth (take k (parts_of 44 text)) ++ n ∷ []) (worth ∙ ap hex_worth same)
+          ∙ sym (map-append hex_worth (take k (parts_of 44 text)) (get_or (parts_of 44 text) k [] ∷ [])) ∙ ap (map hex_worth) (sym (take_more (parts_of 44 text) k [] less));
+      each = λ i below. elim (cases_eq i k) [
+        | inl same_place ↦ subst (λ n. IsHex limit (get_or (parts_of 44 text) n [])) (sym same_place) (subst (IsHex limit) same hex)
+        | inr other ↦ e.each i (omega arith)
+      ];
+    }
+
+-- and all of them, where nothing is left
+pub edges_all : (limit : ℕ) (text : List ℕ) (count : ℕ) (left : List (List ℕ)) (rows : List ℕ) → left ≡ [] → AreEdges limit text count left rows → (take count rows ≡ rows_of text) × IsRows count limit text × (length rows ≡ row_limit)
+edges_all limit text count left rows none e =
+    let rest : length (drop count (parts_of 44 text)) ≡ 0 = ap length (sym e.left_is) ∙ ap length none in
+    let size = length-drop count (parts_of 44 text) in
+    let there = e.there in
+    let all : length (parts_of 44 text) ≡ count = omega arith in
+    (e.same ∙ ap (map hex_worth) (take_all count (parts_of 44 text) (omega arith)), record { count_is = all; each = e.each }, e.length_is)
+
+-- where the parts end too soon, or one isn't a number, or some are left, they aren't rows
+pub no_number : (limit : ℕ) (text : List ℕ) (count k : ℕ) (left rest : List (List ℕ)) (rows part : List ℕ) → k < count → left ≡ part ∷ rest → (IsHex limit part → ⊥) → AreEdges limit text k left rows → IsRows count limit text → ⊥
+no_number limit text count k left rest rows part less is not_hex e r =
+    let (within, same, rest_is) = next_part (parts_of 44 text) part rest k (sym is ∙ e.left_is) in
+    not_hex (subst (IsHex limit) (sym same) (r.each k less))

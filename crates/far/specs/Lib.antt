@@ -1,15 +1,7 @@
 pub mod Limits
-pub mod Automata
 pub mod Texts
-pub mod Tests
 pub mod Kind
-pub mod Far
-pub mod TextList
-pub mod OwnedFar
-pub mod ListedAutomata
+pub mod Claims
 pub mod ListedTexts
-pub mod Listed
-pub mod ListedFields
-pub mod ListedKind
-pub mod OwnedListed
 pub mod inside
+pub mod Terms

@@ -1,6 +1,6 @@
 -- How large automata may be, and what follows from that.
 use Rattle.std.specs.Prelude.{ℕ, ◌+◌, ◌-◌, ◌*◌, ◌/◌}
-use Rattle.machine_text.specs.Limits.{state_limit}
+use Rattle.machine_text.specs.Terms.{state_limit}
 
 -- the most states of the first automaton
 abbrev pub size_limit : ℕ

@@ -1,9 +1,8 @@
 // Two automata, and the evidence that they fit a table.
 ghost use Rattle.std.specs.Prelude.{◌≡◌, ◌≤◌};
-ghost use Rattle.machine_text.specs.Limits.{state_limit};
+ghost use Rattle.machine_text.specs.Terms.{state_limit};
 ghost use Rattle.far.specs.Limits.{size_limit};
-ghost use Rattle.far.specs.Automata.{AreAutomata, AreSized};
-ghost use Rattle.far.specs.Texts.{AreTexts};
+ghost use Rattle.far.specs.Texts.{AreAutomata, AreSized, AreTexts};
 
 use crate::unpacked::Unpacked;
 use kind_evidence::{Evidence, Refused, Verdict};
@@ -29,9 +28,8 @@ pub struct Far<'a> {
 
 impl<'a> Far<'a> {
     ghost use Rattle.std.specs.Prelude.{◌↔◌, IsTrue, IfSome, IfNone};
-    ghost use Rattle.far.specs.Texts.{automata_by, delta_text, rows_text, hex_text};
-    ghost use Rattle.far.specs.Automata.{AreAutomataOf};
-    ghost use Rattle.far.specs.Far.{automata_of};
+    ghost use Rattle.far.specs.Texts.{automata_by, delta_text, rows_text, hex_text, AreAutomataOf};
+    ghost use Rattle.far.specs.Claims.{automata_of};
 
     /// The automata that three texts give, for tables of so many states: where the first one goes, digit by digit;
     /// the edges of the second, and what is kept, in hexadecimal. None where a text isn't such numbers. Takes no
@@ -129,7 +127,7 @@ impl<'a> Far<'a> {
 
 impl Evidence for Far<'_> {
     ghost use Rattle.kind_evidence.specs.declared.verdicts.Verdict.TheVariants.{Never};
-    ghost use Rattle.far.specs.Far.{automata_of};
+    ghost use Rattle.far.specs.Claims.{automata_of};
     ghost use Rattle.far.specs.Kind.{far_kind};
 
     ghost meaning = { λ e. far_kind.meaning (automata_of e) };

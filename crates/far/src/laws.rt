@@ -1,14 +1,10 @@
 // Laws of the texts of automata.
 ghost use Rattle.std.specs.Prelude.{◌≡◌, ◌≤◌, ℕ, List, All, Decides, length};
-ghost use Rattle.text.specs.Fields.{spaced};
-ghost use Rattle.kind_evidence.specs.Kind.{IsKind};
-ghost use Rattle.far.specs.Automata.{Automata, AreAutomata, AreSized};
-ghost use Rattle.far.specs.Kind.{number_fields};
-ghost use Rattle.far.specs.Kind.{far_kind};
+ghost use Rattle.text.specs.Terms.{spaced};
+ghost use Rattle.kind_evidence.specs.Terms.{IsKind};
+ghost use Rattle.far.specs.Texts.{Automata, AreAutomata, AreSized, are_texts, AreTexts, automata_by, delta_text, rows_text, hex_text};
+ghost use Rattle.far.specs.Kind.{number_fields, far_kind, listed_kind};
 ghost use Rattle.far.specs.Limits.{number_byte_limit};
-ghost use Rattle.far.specs.ListedKind.{listed_kind};
-ghost use Rattle.far.specs.Tests.{are_texts};
-ghost use Rattle.far.specs.Texts.{AreTexts, automata_by, delta_text, rows_text, hex_text};
 
 /// The texts of automata's numbers give those numbers again. They hold neither a space nor a newline, and with
 /// a space before each they have at most 6,784 bytes.

@@ -1,12 +1,12 @@
 // Two automata, the second by lists, and the evidence that they fit a table.
 ghost use Rattle.std.specs.Prelude.{◌≡◌, ◌+◌, ◌≤◌, IsTrue, is_some, length, decimal};
-ghost use Rattle.machine_text.specs.Limits.{state_limit};
+ghost use Rattle.machine_text.specs.Terms.{state_limit};
 ghost use Rattle.far.specs.Limits.{listed_size_limit, listed_byte_limit};
 ghost use Rattle.far.specs.ListedTexts.{automata_in};
 
 use crate::limits::{MAX_LISTED_BYTES, MAX_LISTED_SIZE};
 use crate::listed_unpacked::Unpacked;
-use crate::testing::are_texts;
+use crate::numbers::are_texts;
 use itoa::Buffer;
 use kind_evidence::{Evidence, NoMemory, Refused, Verdict};
 use machine_text::{Dir, Table};
@@ -33,8 +33,8 @@ pub struct Listed<'a> {
 
 impl<'a> Listed<'a> {
     ghost use Rattle.std.specs.Prelude.{◌↔◌, None, IfSome, IfNone, IfOk};
-    ghost use Rattle.far.specs.ListedFields.{AreListedTexts};
-    ghost use Rattle.far.specs.Listed.{AreTextsOf, texts_of};
+    ghost use Rattle.far.specs.Kind.{AreListedTexts};
+    ghost use Rattle.far.specs.Claims.{AreTextsOf, texts_of};
     ghost use Rattle.far.specs.ListedTexts.{listed_texts};
 
     /// Whether the first automaton may have this size: from 1 to `MAX_LISTED_SIZE`.
@@ -166,8 +166,8 @@ fn digits_of(number: u16) -> usize
 
 impl Evidence for Listed<'_> {
     ghost use Rattle.kind_evidence.specs.declared.verdicts.Verdict.TheVariants.{Never};
-    ghost use Rattle.far.specs.ListedKind.{listed_kind};
-    ghost use Rattle.far.specs.Listed.{texts_of};
+    ghost use Rattle.far.specs.Kind.{listed_kind};
+    ghost use Rattle.far.specs.Claims.{texts_of};
 
     ghost meaning = { λ e. listed_kind.meaning (texts_of e) };
 

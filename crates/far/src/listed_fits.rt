@@ -1,18 +1,119 @@
-// Whether the numbers of two automata hold what a table asks for.
-ghost use Rattle.std.specs.Prelude.{◌≡◌, ◌↔◌, ◌+◌, ◌*◌, ◌<◌, ◌≤◌, length, IfOk, IsTrue, IsPermutation};
-ghost use Rattle.machine_text.specs.Packed.{entry_of, symbol_number};
-ghost use Rattle.far.specs.ListedAutomata.{AreListedOf, IsRising, halt_number, edges_at, target_of};
-ghost use Rattle.far.specs.Limits.{listed_pair_limit};
-ghost use Rattle.far.specs.inside.ListedSteps.{LeadsInto, LeadInto, GoesAhead, PairFits, EachPairFits, all_moves, BackOver, GoesBack, FitsBack, EachFitsBack, AreSeen, BlankIsKept};
+// Whether the numbers of two automata with listed edges hold what a table asks for.
+ghost use Rattle.std.specs.Prelude.{◌≡◌, ◌<◌, IfOk, IsPermutation, ◌↔◌, length, IsTrue, ◌+◌, ◌*◌, ◌≤◌};
+ghost use Rattle.far.specs.inside.Steps.{all_moves, move_from, IsPartTo, LeadsInto, LeadInto, GoesAhead, PairFits, EachPairFits, BackOver, GoesBack, FitsBack, EachFitsBack, AreSeen, BlankIsKept};
 ghost use Rattle.far.specs.inside.ListedUnpacked.{numbers_of_unpacked};
+ghost use Rattle.far.specs.ListedTexts.{has_item, IsRising, AreListedOf, halt_number, edges_at, target_of};
+ghost use Rattle.machine_text.specs.Terms.{entry_of, symbol_number};
+ghost use Rattle.far.specs.Limits.{listed_pair_limit};
 
 use crate::fits::{is_ahead, symbol_number};
 use crate::listed_unpacked::Unpacked;
-use crate::moves::Move;
-use crate::search::{has, is_part};
 use kind_evidence::NoMemory;
 use machine_text::{Entry, State, Sym, Table};
 use std::alloc::Global;
+
+// A transition: to where, from a state, on a symbol.
+#[derive(Clone, Copy, Debug, PartialEq, Eq, PartialOrd, Ord)]
+pub(crate) struct Move {
+    pub to: u16,
+    pub from: u16,
+    pub read: Sym,
+}
+
+impl Unpacked {
+    // All transitions, those to one state one behind another.
+    pub fn moves(&self, alloc: Global) -> Result<Vec<Move>, NoMemory>
+        ensures { IfOk result (λ moves. IsPermutation (all_moves (numbers_of_unpacked self.now) self.now.size)
+            moves.items) }
+    {
+        let mut moves = self.moves_by_state(alloc)?;
+        moves.sort_unstable();
+        Ok(moves)
+    }
+
+    // The transitions by the states from which they go.
+    fn moves_by_state(&self, alloc: Global) -> Result<Vec<Move>, NoMemory>
+        ensures { IfOk result (λ moves. moves.items ≡ all_moves (numbers_of_unpacked self.now) self.now.size) }
+    {
+        let mut moves = Vec::new(alloc);
+        for q in 0..self.size {
+            moves.push(self.move_from(q, Sym::Zero))?;
+            moves.push(self.move_from(q, Sym::One))?;
+        }
+        Ok(moves)
+    }
+
+    fn move_from(&self, q: u16, s: Sym) -> Move
+        requires { q < self.now.size }
+        ensures { result ≡ move_from (numbers_of_unpacked self.now) q s }
+    {
+        Move {
+            to: self.target(q, s),
+            from: q,
+            read: s,
+        }
+    }
+}
+
+// Whether a number is in a list.
+pub(crate) fn has(list: &[u16], k: u16) -> bool
+    requires { IsRising list.now }
+    ensures { result ≡ has_item list.now k }
+{
+    list.binary_search(&k).is_ok()
+}
+
+// How much longer a list is that isn't gone through whole.
+const LONGER: usize = 16;
+
+// Whether all of a list is in another.
+pub(crate) fn is_part(a: &[u16], b: &[u16]) -> bool
+    requires first { IsRising a.now }
+    requires second { IsRising b.now }
+    ensures { IsTrue result ↔ IsPartTo a.now b.now (length a.now) }
+{
+    if a.len() < b.len() / LONGER {
+        is_part_of_long(a, b)
+    } else {
+        is_part_of_near(a, b)
+    }
+}
+
+// Whether a list is part of one that is much longer: each number is searched.
+fn is_part_of_long(a: &[u16], b: &[u16]) -> bool
+    requires { IsRising b.now }
+    ensures { IsTrue result ↔ IsPartTo a.now b.now (length a.now) }
+{
+    for i in 0..a.len() {
+        if !has(b, a[i]) {
+            return false;
+        }
+    }
+    true
+}
+
+// Whether a list is part of one that isn't much longer: both are gone through once.
+fn is_part_of_near(a: &[u16], b: &[u16]) -> bool
+    requires first { IsRising a.now }
+    requires second { IsRising b.now }
+    ensures { IsTrue result ↔ IsPartTo a.now b.now (length a.now) }
+{
+    let mut i = 0;
+    let mut j = 0;
+    'items: while i < a.len() {
+        if j == b.len() {
+            return false;
+        }
+        if b[j] > a[i] {
+            return false;
+        }
+        if b[j] == a[i] {
+            i += 1;
+        }
+        j += 1;
+    }
+    true
+}
 
 impl Unpacked {
     // Whether the automata fit a table of their number of states.
@@ -64,7 +165,7 @@ impl Unpacked {
     }
 
     // Whether (q, f) has them on a symbol.
-    #[tactic(auto, unfolding(crate::specs::inside::ListedSteps::PairFits))]
+    #[tactic(auto, unfolding(crate::specs::inside::Steps::PairFits))]
     fn fits_pair(&self, t: &Table, q: u16, f: u16, r: Sym) -> bool
         requires states { self.now.states ≡ t.now.states }
         requires first { q < self.now.size }

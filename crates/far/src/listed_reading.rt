@@ -1,12 +1,82 @@
-// The numbers of automata, read from their texts.
-ghost use Rattle.std.specs.Prelude.{◌≡◌, ◌+◌, ◌<◌, ◌≤◌, ◌^◌, IfOk, IfSome, Some, None, option_map, if◌then◌else◌, true};
-ghost use Rattle.text.specs.Parts.{parts_of};
-ghost use Rattle.far.specs.ListedTexts.{number_in, next_low, numbers_in, row_in, rows_in};
+// Automata with listed edges as the fields of a record, and their numbers, read from their texts.
+ghost use Rattle.std.specs.Prelude.{◌≡◌, ◌<◌, ◌++◌, ◌∷◌, [], length, get_or, IfOk, OnOk, OnErr, ◌+◌, ◌≤◌, ◌^◌, IfSome, Some, None, option_map, if◌then◌else◌, true, take};
+ghost use Rattle.text.specs.Terms.{parts_of, spaced, made_of};
+ghost use Rattle.far.specs.ListedTexts.{number_in, next_low, numbers_in, row_in, rows_in, listed_texts};
+ghost use Rattle.machine_text.specs.Terms.{state_limit};
+ghost use Rattle.far.specs.Kind.{texts_by, listed_by, listed_fields, AreListedTexts};
+ghost use Rattle.far.specs.Limits.{listed_size_limit};
+ghost use Rattle.far.specs.Claims.{texts_of};
 
-use crate::lists::Lists;
-use kind_evidence::NoMemory;
+use crate::fields::{append_texts, size_in};
+use crate::limits::MAX_LISTED_SIZE;
+use crate::listed::Listed;
+use kind_evidence::{NoMemory, side_of};
+use machine_text::Dir;
 use std::alloc::Global;
-use text::{Parts, decimal_value};
+use std::marker::Model;
+use text::{FieldFault, Parts, decimal_value, end_of, next_field};
+
+// The items of all lists, and where in them each list starts; the last start is the end.
+#[derive(Drop)]
+pub(crate) struct Lists {
+    starts: Vec<usize>,
+    items: Vec<u16>,
+}
+
+impl Model for Lists {
+    ghost use Rattle.std.specs.Prelude.{List, ℕ};
+    ghost use Rattle.far.specs.inside.Reading.{lists_between, AreStarts};
+
+    ghost Value = { List (List ℕ) };
+
+    ghost view = { λ a. lists_between a.starts.items a.items.items };
+
+    ghost invariant = { λ a. AreStarts a.starts.items a.items.items };
+}
+
+impl Lists {
+    // No list.
+    pub fn new(alloc: Global) -> Result<Lists, NoMemory>
+        ensures { IfOk result (λ lists. lists ≡ []) }
+    {
+        let mut starts = Vec::new(alloc);
+        starts.push(0)?;
+        Ok(Lists {
+            starts,
+            items: Vec::new(alloc),
+        })
+    }
+
+    // How many there are.
+    #[tactic(auto, using(crate::proofs::Listing::lists_length))]
+    pub fn len(&self) -> usize
+        ensures { result ≡ length self.now }
+    {
+        self.starts.len() - 1
+    }
+
+    // One of the lists.
+    #[tactic(auto, using(crate::proofs::Listing::lists_length))]
+    pub fn get(&self, k: usize) -> &[u16]
+        requires { k < length self.now }
+        ensures { result.now ≡ get_or self.now k [] }
+    {
+        let from = self.starts[k];
+        let to = self.starts[k + 1];
+        &self.items[from..to]
+    }
+
+    // One more.
+    pub fn push(&mut self, list: &[u16]) -> Result<(), NoMemory>
+        ensures ok { OnOk result (self.new ≡ self.old ++ list.now ∷ []) }
+        ensures err { OnErr result (self.new ≡ self.old) }
+    {
+        self.starts.reserve(1)?;
+        self.items.extend_from_slice(list)?;
+        self.starts.push(self.items.len())?;
+        Ok(())
+    }
+}
 
 // The number that a text is, from one number on and below another.
 #[tactic(auto, unfolding(crate::specs::ListedTexts::number_in))]
@@ -105,4 +175,62 @@ pub(crate) fn rows_of(alloc: Global, text: &[u8], last: u16) -> Result<Option<Li
         rows.push(&row)?;
     }
     Ok(Some(rows))
+}
+
+impl<'a> Listed<'a> {
+    /// The claim that the fields of a record make, for a table of so many states: `side m delta rows keep`. Takes
+    /// no memory.
+    pub fn read(states: u8, mut fields: Parts<'a>) -> Result<Listed<'a>, FieldFault>
+        requires { (1 ≤ states) × (states ≤ state_limit) }
+        ensures { made_of texts_of result ≡ listed_by states fields.entry }
+    {
+        let side = next_field(&mut fields)?;
+        let size = next_field(&mut fields)?;
+        let delta = next_field(&mut fields)?;
+        let rows = next_field(&mut fields)?;
+        let keep = next_field(&mut fields)?;
+        end_of(fields)?;
+        let side = side_of(side).ok_or(FieldFault::BadNumber)?;
+        let size = size_in(size, u64::from(MAX_LISTED_SIZE))? as u16;
+        texts_from(states, side, size, delta, rows, keep)
+    }
+
+    /// Appends the fields of a record, each behind a space: they read back as the same texts (`listed_automata_are_a_kind`).
+    /// Where memory is refused, a beginning of them.
+    pub fn append_fields(&self, out: &mut Vec<u8>) -> Result<(), NoMemory>
+        ensures ok { OnOk result (out.new.items ≡ out.old.items ++ spaced (listed_fields (texts_of self.now))) }
+        ensures writable { OnOk result (AreListedTexts (texts_of self.now)) }
+        ensures kept { take (length out.old.items) out.new.items ≡ out.old.items }
+    {
+        append_texts(
+            self.side,
+            u64::from(self.size),
+            self.delta,
+            self.rows,
+            self.keep,
+            out,
+        )
+    }
+}
+
+// The automata of a size that three texts give, for tables of so many states.
+fn texts_from<'a>(
+    states: u8,
+    side: Dir,
+    size: u16,
+    delta: &'a [u8],
+    rows: &'a [u8],
+    keep: &'a [u8],
+) -> Result<Listed<'a>, FieldFault>
+    requires states { (1 ≤ states) × (states ≤ state_limit) }
+    requires size { (1 ≤ size) × (size ≤ listed_size_limit) }
+    ensures { made_of texts_of result ≡ texts_by (listed_texts states side size delta.now rows.now keep.now) }
+{
+    if !Listed::are_short(states, size, delta, rows, keep) {
+        return Err(FieldFault::TooLong);
+    }
+    match Listed::new(states, side, size, delta, rows, keep) {
+        Some(evidence) => Ok(evidence),
+        None => Err(FieldFault::BadList),
+    }
 }

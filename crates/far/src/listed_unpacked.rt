@@ -1,11 +1,10 @@
-// The numbers of two automata, unpacked.
+// The numbers of two automata with listed edges, unpacked.
 ghost use Rattle.std.specs.Prelude.{◌≡◌, ◌≤◌, IfOk, option_map};
-ghost use Rattle.machine_text.specs.Limits.{state_limit};
+ghost use Rattle.machine_text.specs.Terms.{state_limit};
 ghost use Rattle.far.specs.Limits.{listed_size_limit, listed_pair_limit};
-ghost use Rattle.far.specs.ListedAutomata.{listed_automata, AreListed, AreOfSize};
+ghost use Rattle.far.specs.ListedTexts.{listed_automata, AreListed, AreOfSize};
 
-use crate::listed_reading::{numbers_of, rows_of};
-use crate::lists::Lists;
+use crate::listed_reading::{Lists, numbers_of, rows_of};
 use kind_evidence::NoMemory;
 use machine_text::{Dir, Table};
 use std::alloc::Global;
@@ -25,8 +24,7 @@ pub(crate) struct Unpacked {
 
 impl Unpacked {
     ghost use Rattle.std.specs.Prelude.{◌↔◌, IsTrue};
-    ghost use Rattle.far.specs.ListedAutomata.{AreListedOf, halt_number};
-    ghost use Rattle.far.specs.ListedTexts.{automata_in};
+    ghost use Rattle.far.specs.ListedTexts.{AreListedOf, halt_number, automata_in};
     ghost use Rattle.far.specs.inside.ListedUnpacked.{numbers_of_unpacked};
 
     // The numbers that three texts give, for tables of so many states; none where a text isn't such numbers.

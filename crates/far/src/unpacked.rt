@@ -1,10 +1,10 @@
 // The numbers of two automata, unpacked.
 ghost use Rattle.std.specs.Prelude.{◌≡◌, ◌+◌, ◌*◌, ◌≤◌, take};
-ghost use Rattle.machine_text.specs.Limits.{state_limit};
+ghost use Rattle.machine_text.specs.Terms.{state_limit};
 ghost use Rattle.far.specs.Limits.{size_limit, pair_limit};
-ghost use Rattle.far.specs.Automata.{automata, AreAutomata, AreSized};
+ghost use Rattle.far.specs.Texts.{automata, AreAutomata, AreSized};
 
-use crate::hexadecimal::hex_number;
+use crate::fields::hex_number;
 use crate::limits::{MAX_MOVES, MAX_ROWS, Set};
 use crate::numbers::{are_sets, are_states, delta_of, rows_of, set_limit};
 use machine_text::{Dir, Table};
@@ -25,8 +25,7 @@ pub(crate) struct Unpacked {
 
 impl Unpacked {
     ghost use Rattle.std.specs.Prelude.{◌↔◌, IsTrue, IfSome, IfNone};
-    ghost use Rattle.far.specs.Texts.{AreTexts, automata_by};
-    ghost use Rattle.far.specs.Automata.{AreAutomataOf};
+    ghost use Rattle.far.specs.Texts.{AreTexts, automata_by, AreAutomataOf};
     ghost use Rattle.far.specs.inside.Unpacked.{unpacked_of};
     ghost use Rattle.far.specs.inside.Steps.{last};
 

@@ -1,2 +1,2 @@
 pub mod Paths
-pub mod Opened
+pub mod Terms

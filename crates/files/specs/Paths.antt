@@ -1,5 +1,9 @@
--- What is known to stand at paths, and how that changes.
+-- What is known to stand at paths, and of a ledger that is read.
 use Rattle.std.specs.Prelude.{◌≡◌, ℕ, Bool, false, List, [], Option, Some, None, ⊤, length}
+use Rattle.files.specs.declared.opened.Held.{Held}
+use Rattle.files.specs.declared.opened.Held.TheVariants.{Nothing, File}
+
+-- What is known to stand at paths, and how that changes.
 
 -- what is known to stand at a path: nothing is known, or there is no file, or these bytes are its file
 pub data Known : Type 0 where
@@ -60,3 +64,14 @@ IsKeptBut tells path old new = (other : List ℕ) → tells path other false →
 pub record IsPut (tells : SameFile) (path : List ℕ) (text : Option (List ℕ)) (old new : Shelf) : Type 0 where
   pub at : IsFileAt (new path) text
   pub others : IsKeptBut tells path old new
+
+-- A ledger that is read, whose file need not be there.
+abbrev pub held_bytes : {R : Type 0} → (R → Option (List ℕ)) → Held R → Option (List ℕ)
+held_bytes remaining Nothing = Some []
+held_bytes remaining (File file) = remaining file
+
+-- what it is read by: the bytes of its file, or none where there is none
+abbrev pub IsLedgerOn : Known → Option (List ℕ) → ℕ → Type 0
+IsLedgerOn Unknown has len = ⊤
+IsLedgerOn Missing has len = (has ≡ Some []) × (len ≡ 0)
+IsLedgerOn (Bytes bytes) has len = (has ≡ Some bytes) × (len ≡ length bytes)

@@ -1,16 +1,12 @@
 //! Where the files stand that a command line names.
 //!
-//! `Files` is what commands see of them. `specs/Paths` has what is known to stand at paths and how that changes,
-//! `specs/Opened` what is read of it.
+//! `Files` is what commands see of them. `specs/Paths` has what is known to stand at paths, how that changes, and what
+//! is read of it.
 #![tactic(auto)]
 
 mod files;
 mod opened;
-mod progress;
-mod writing;
 
 pub use cmd_options::ended_by;
-pub use files::{Files, lock_ledger};
-pub use opened::{Held, Opened, held_at};
-pub use progress::Progress;
-pub use writing::{ledger_at, made_for, put_at};
+pub use files::{Files, Progress, lock_ledger};
+pub use opened::{Held, Opened, held_at, ledger_at, made_for, put_at};

@@ -1,13 +1,181 @@
-// The search, depth first.
-ghost use Rattle.std.specs.Prelude.{◌≡◌, ◌+◌, ◌<◌, ◌≤◌, IfSome, length, vec_len};
+// The search for automata, depth first: how far it goes, its levels, and what it finds.
+ghost use Rattle.std.specs.Prelude.{◌≡◌, ◌*◌, ◌<◌, ◌≤◌, ℕ, slice_index, IfSome, ◌+◌, ◌^◌, length, vec_len};
+ghost use Rattle.find_automata.specs.Limits.{largest_size};
 
-use crate::automaton::Automaton;
-use crate::level::Level;
-use crate::limits::{MAX_MOVES, MAX_SIZE};
-use crate::sided_table::SidedTable;
-use crate::stages::{STAGES, Stage};
+use crate::edges::Edges;
+use crate::limits::{MAX_MOVES, MAX_SIZE, STATE_NODES, WIDTH, symbol_of};
+use crate::transitions::{Bits, SidedTable, Transitions};
 use machine_text::{Dir, Table};
 use std::alloc::{AllocError as NoMemory, Global};
+
+/// The first automaton of a finite automata reduction: it reads the half tape behind the head, from far away
+/// towards the head, and the side says which way is ahead. From state q it goes on `Zero` to `delta[2q]`, on `One`
+/// to `delta[2q + 1]`; entries past the last state are 0.
+#[derive(Clone, Copy, Debug, PartialEq, Eq)]
+pub struct Automaton {
+    pub side: Dir,
+    pub size: u8,
+    pub delta: [u8; MAX_MOVES],
+    pub ghost limits: { (1 ≤ size) × (size ≤ largest_size) },
+    pub ghost states: { (k : ℕ) → slice_index delta k < size },
+    pub ghost blank: { slice_index delta 0 ≡ 0 },
+}
+
+#[derive(Drop)]
+pub(crate) struct Level {
+    first: Transitions,
+    edges: Edges,
+    // the transition to be decided
+    number: usize,
+    // and the targets that weren't tried yet
+    untried: Bits,
+    ghost numbered: { number < 32 },
+}
+
+impl Level {
+    pub fn new() -> Level {
+        Level {
+            first: Transitions::START,
+            edges: Edges::new(),
+            number: 0,
+            untried: 0,
+        }
+    }
+
+    // The root: a first state, to which blanks lead.
+    pub fn begin(&mut self, table: &SidedTable) {
+        self.first = Transitions::START;
+        self.edges.begin();
+        self.edges.push(table, 0, 0);
+        self.untried = 0;
+    }
+
+    // The child of another one, in which its transition has this target.
+    pub fn begin_below(&mut self, parent: &Level, table: &SidedTable, target: u8)
+        requires { target < 16 }
+    {
+        let named = parent.first.named();
+        self.edges.copy(&parent.edges, named);
+        if target >= named {
+            self.edges.clear_state(target);
+        }
+        self.edges.push(table, parent.number, target);
+        self.first = parent.first;
+        self.first.decide(parent.number, target);
+        self.untried = 0;
+    }
+
+    // Adds the edges, and says whether these automata will do. Where they don't, and may do with more transitions, the
+    // next one is to be decided.
+    pub fn suffices(&mut self, table: &SidedTable, limit: u8, most_states: u8) -> bool {
+        if !self.edges.close(table, &self.first) {
+            return false;
+        }
+        match self.next_number(table, most_states) {
+            Some(number) => {
+                self.number = number;
+                self.untried = self.first.targets(limit);
+                false
+            }
+            None => true,
+        }
+    }
+
+    // The first transition that is called and not there; where no state can be added, any that isn't there.
+    fn next_number(&self, table: &SidedTable, most_states: u8) -> Option<usize>
+        ensures { IfSome result (λ number. number < 32) }
+    {
+        let pushed = [
+            self.edges.pushed(table, symbol_of(0)),
+            self.edges.pushed(table, symbol_of(1)),
+        ];
+        let is_full = self.first.named() >= most_states;
+        for number in 0..2 * self.first.named() as usize {
+            let called = (pushed[number % 2] >> (WIDTH * (number / 2))) & STATE_NODES != 0;
+            if (called || is_full) && !self.first.is_decided(number) {
+                return Some(number);
+            }
+        }
+        None
+    }
+
+    // The target to be tried next.
+    pub fn next_target(&mut self) -> Option<u8>
+        ensures { IfSome result (λ q. q < 16) }
+    {
+        if self.untried == 0 {
+            return None;
+        }
+        let target = self.first.best_target(self.number, self.untried)?;
+        self.untried &= !(1 << target);
+        Some(target)
+    }
+
+    // The automaton, if it may have so many states.
+    pub fn automaton(&self, side: Dir, most_states: u8) -> Option<Automaton>
+        ensures { IfSome result (λ a. a.size ≤ most_states) }
+    {
+        self.first.automaton(side, most_states)
+    }
+}
+
+/// Automata of so many named states, and how many of them are tried.
+#[derive(Clone, Copy, Debug, PartialEq, Eq)]
+pub struct Stage {
+    /// How many states are named: those that are called. One more may follow them, for what is never called.
+    pub named: u8,
+    /// How many automata are tried on each side, as far as they have grown: these are the nodes of the search tree.
+    pub tries: u64,
+}
+
+/// The stages, by which small automata come first: each is tried on what the ones before it leave.
+pub const STAGES: [Stage; 7] = [
+    Stage {
+        named: 2,
+        tries: 60,
+    },
+    Stage {
+        named: 3,
+        tries: 60,
+    },
+    Stage {
+        named: 6,
+        tries: 100,
+    },
+    Stage {
+        named: 8,
+        tries: 500,
+    },
+    Stage {
+        named: 10,
+        tries: 2_000,
+    },
+    Stage {
+        named: 12,
+        tries: 4_000,
+    },
+    Stage {
+        named: 15,
+        tries: 4_000,
+    },
+];
+
+/// The budget at which a stage has its own number of tries.
+pub const USUAL_BUDGET: u64 = 1_000;
+
+impl Stage {
+    /// The stage with its tries in proportion to a budget, rounded up.
+    pub fn scaled(self, budget: u64) -> Stage
+        ensures named { result.named ≡ self.named }
+        ensures enough { self.tries * budget < 2 ^ 64 → self.tries * budget ≤ 1000 * result.tries }
+        ensures no_more { 1000 * result.tries < self.tries * budget + 1000 }
+    {
+        Stage {
+            named: self.named,
+            tries: self.tries.saturating_mul(budget).div_ceil(USUAL_BUDGET),
+        }
+    }
+}
 
 // The root, and a level below it for each transition.
 const LEVELS: usize = MAX_MOVES + 1;

@@ -2,10 +2,46 @@
 ghost use Rattle.std.specs.Prelude.{◌≡◌, ◌*◌, ◌<◌, ◌≤◌};
 
 use crate::limits::{MAX_NODES, MAX_ROWS, Set, WIDTH, has, node_of, place_of, symbol_of};
-use crate::node_pairs::NodePairs;
-use crate::sided_table::{MAX_PAIRS, SidedTable, Step};
-use crate::transitions::Transitions;
+use crate::transitions::{MAX_PAIRS, SidedTable, Step, Transitions};
 use machine_text::Sym;
+
+// The nodes by the symbol.
+#[derive(Clone, Copy)]
+pub(crate) struct NodePairs {
+    zero: Set,
+    one: Set,
+}
+
+impl NodePairs {
+    pub const NONE: NodePairs = NodePairs { zero: 0, one: 0 };
+
+    // The first node on a blank.
+    pub const START: NodePairs = NodePairs { zero: 1, one: 0 };
+
+    // The nodes with this symbol.
+    pub fn on(&self, symbol: Sym) -> Set {
+        match symbol {
+            Sym::Zero => self.zero,
+            Sym::One => self.one,
+        }
+    }
+
+    // Adds nodes with this symbol, and says whether there were new ones.
+    pub fn add(&mut self, symbol: Sym, nodes: Set) -> bool {
+        let before = self.on(symbol);
+        let after = before | nodes;
+        match symbol {
+            Sym::Zero => self.zero = after,
+            Sym::One => self.one = after,
+        }
+        after != before
+    }
+
+    // The nodes that both have with one symbol.
+    pub fn common(&self, other: &NodePairs) -> Set {
+        (self.zero & other.zero) | (self.one & other.one)
+    }
+}
 
 // More than the edges, pairs and kept nodes that there can be.
 const MAX_PASSES: usize = MAX_NODES * (MAX_ROWS + 3) + 1;

@@ -1,8 +1,7 @@
 // The least cosets that go with two automata.
 use crate::automata::{Automaton, Transition, bit};
-use crate::cosets::{Coset, Kept};
+use crate::cosets::{Coset, Kept, Vector};
 use crate::limits::{MAX_EDGES, MAX_FOUND_COUNTS, MAX_FOUND_STATES};
-use crate::vectors::Vector;
 use machine_text::{Dir, Entry, State, Sym, Table};
 use std::alloc::{AllocError as NoMemory, Global};
 

@@ -1,15 +1,13 @@
 // The search for counted automata.
 ghost use Rattle.std.specs.Prelude.{◌≡◌, ◌+◌, ◌≤◌, min, IfSome, IfOk};
-ghost use Rattle.kind_counted.specs.OwnedCosets.{owned_coset_texts};
+ghost use Rattle.kind_counted.specs.Terms.{owned_coset_texts};
 ghost use Rattle.find_counted.specs.Findings.{AreCosetsFound};
 ghost use Rattle.find_counted.specs.Limits.{found_count_limit};
 
-use crate::automata::Automaton;
+use crate::automata::{Automaton, append_automaton, append_cosets};
 use crate::closing::Closing;
-use crate::half_tapes::HalfTapes;
-use crate::half_tree::HalfTree;
+use crate::half_tapes::{HalfTapes, HalfTree};
 use crate::limits::{MAX_FOUND_COUNTS, STEPS, WINDOWS};
-use crate::writing::{append_automaton, append_cosets};
 use cert::{Finder, OwnedCertificate};
 use kind_counted::{CountedCosets, OwnedCosets};
 use kind_evidence::{Evidence, NoMemory, Refused};

@@ -1,10 +1,10 @@
 // Has a half tape be another one, by equations alone.
 use crate::block::{Block, Times};
-use crate::half::Half;
 use crate::limits::LONGEST_WORD;
+use crate::runs::Stop;
 use crate::script::Script;
-use crate::stop::Stop;
-use crate::word::Word;
+use crate::tapes::Half;
+use crate::words::Word;
 use machine_text::{Dir, Sym};
 
 // How many equations one block of the other half tape may take.

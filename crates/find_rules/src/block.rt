@@ -1,5 +1,5 @@
 // Words that are repeated.
-use crate::word::Word;
+use crate::words::Word;
 use machine_text::Sym;
 
 // How many variables there are: a, b, c and d.

@@ -1,13 +1,10 @@
 // Chain rules: what changed blocks twice in the same way may be done as often as they allow.
 use crate::block::{Times, VARIABLES, marked, with_first};
-use crate::block_run::BlockRun;
-use crate::fitting::common_divisor;
-use crate::form::Form;
 use crate::limits::{MAX_CHANGED, MAX_LEAST, MAX_RULE_SCALE};
-use crate::places::{Places, Stayed};
-use crate::rule::Rule;
+use crate::rules::{Rule, common_divisor};
+use crate::runs::{BlockRun, Places, Stayed, Stop};
 use crate::script::Script;
-use crate::stop::Stop;
+use crate::tapes::Form;
 use machine_text::{Dir, Table};
 use std::alloc::{AllocError as NoMemory, Global};
 

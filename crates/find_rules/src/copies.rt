@@ -1,6 +1,6 @@
 // What a table does to copies of a word, where each copy more takes longer by a factor: so counters count.
 use crate::limits::{COUNTED_COPIES, COUNTED_STEPS, WORDS_BEHIND, WORDS_BEYOND, WORDS_COUNTED};
-use crate::word::Word;
+use crate::words::Word;
 use machine_text::{Dir, State, Table};
 
 // The steps may seem to become so many times too many.

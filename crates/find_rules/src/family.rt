@@ -1,9 +1,9 @@
 // Families: tapes at records of one side and state, whose blocks grow by constants.
 use crate::block::{Block, Times};
-use crate::half::{Half, cut_blanks};
 use crate::limits::LONGEST_WORD;
 use crate::recorded_run::{RecordedRun, TapeRecord};
-use crate::repeats::list_blocks;
+use crate::tapes::{Half, cut_blanks};
+use crate::words::list_blocks;
 use machine_text::Sym;
 use std::alloc::{AllocError as NoMemory, Global};
 

@@ -1,14 +1,13 @@
 // Rules of counters. What a table does to a few copies of a word is guessed to go on so, and the guesses are proved
 // together: each for one copy more by all of them for as many copies as there were.
 use crate::block::{Block, Times, with_first};
-use crate::block_run::BlockRun;
 use crate::copies::{Passage, Start, count_starts};
-use crate::form::Form;
 use crate::limits::{JOINT_PLACES, JOINT_ROUNDS, JOINT_WORK, MAX_JOINT};
-use crate::rule::Rule;
+use crate::records::opposite;
+use crate::rules::Rule;
+use crate::runs::{BlockRun, Stop};
 use crate::script::Script;
-use crate::stop::Stop;
-use crate::texts::opposite;
+use crate::tapes::Form;
 use machine_text::{Dir, Sym, Table};
 use std::alloc::{AllocError as NoMemory, Global};
 

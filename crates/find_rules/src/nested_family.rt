@@ -1,12 +1,10 @@
 // Families of a run on blocks: a shape that comes again, of which no block has become less.
 use crate::block::{Times, VARIABLES, marked, with_first};
-use crate::block_run::BlockRun;
-use crate::fitting::common_divisor;
-use crate::form::Form;
 use crate::limits::MAX_FAMILY_SCALE;
-use crate::places::Places;
+use crate::rules::common_divisor;
+use crate::runs::{BlockRun, Places, Stop};
 use crate::script::Script;
-use crate::stop::Stop;
+use crate::tapes::Form;
 use machine_text::{Dir, State, Table};
 use std::alloc::{AllocError as NoMemory, Global};
 

@@ -1,15 +1,13 @@
 // The finder of rules with rules in them, for a run on blocks that learns as it goes.
-use crate::block_run::BlockRun;
 use crate::chain::Chain;
 use crate::joint_rules::JointRules;
 use crate::limits::{
     GUESSES, MAX_BLOCKS, MAX_GAP, MAX_GUESSED_FAMILIES, MAX_GUESSED_RULES, WORK_A_PLACE,
 };
 use crate::nested_family::{Growth, NestedFamily};
-use crate::nested_record::write_fields;
-use crate::places::Places;
+use crate::records::write_fields;
+use crate::runs::{BlockRun, Places, Stop};
 use crate::script::Script;
-use crate::stop::Stop;
 use kind_evidence::NoMemory;
 use kind_rules::{OwnedRules, Rules};
 use machine_text::{Dir, State, Table};

@@ -1,13 +1,12 @@
 // Rules and scripts for a family.
 use crate::block::{Block, Change, Times};
-use crate::half::{Half, cut_blanks};
 use crate::limits::{LONGEST_WORD, MAX_CONTEXT, MAX_SCALE, STEPS_A_MOVE, SWEEP_STEPS};
 use crate::recorded_run::TapeRecord;
+use crate::records::{append_half, append_head, append_times, begin_move, opposite};
+use crate::runs::Stop;
 use crate::script::Script;
-use crate::stop::Stop;
-use crate::sweep::{Question, Sweep, Sweeper};
-use crate::sweep_rule::rule_of_sweep;
-use crate::texts::{append_half, append_head, append_times, begin_move, opposite};
+use crate::sweeps::{Question, Sweep, Sweeper, rule_of_sweep};
+use crate::tapes::{Half, cut_blanks};
 use machine_text::{Dir, State, Sym, Table};
 use std::alloc::{AllocError as NoMemory, Global};
 use text::append_number;

@@ -1,12 +1,12 @@
 // The finder: families of a run, and rules for them.
 use crate::family::{MEMBERS, Shapes, earlier_members, may_be_family, member};
-use crate::half::Half;
 use crate::limits::{
     FIRST_STEPS, LONG_WORDS, MAX_FAMILIES, MAX_STARTS, MAX_STRIDE, MAX_TRIES, SHORT_WORDS,
 };
 use crate::proving::{Prover, next_scale};
 use crate::recorded_run::{RecordedRun, TapeRecord};
-use crate::stop::Stop;
+use crate::runs::Stop;
+use crate::tapes::Half;
 use cert::{Finder, OwnedCertificate};
 use kind_evidence::NoMemory;
 use kind_rules::{OwnedRules, Rules};

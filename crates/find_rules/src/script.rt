@@ -1,11 +1,10 @@
 // A tape of blocks, and the script by which it came about.
 use crate::block::{Block, Times, VARIABLES};
-use crate::form::Form;
-use crate::half::Half;
 use crate::limits::{LONGEST_MOVE, LONGEST_WORD};
-use crate::stop::Stop;
-use crate::texts::{append_equation, append_times, append_word, begin_move, opposite};
-use crate::word::Word;
+use crate::records::{append_equation, append_times, append_word, begin_move, opposite};
+use crate::runs::Stop;
+use crate::tapes::{Form, Half};
+use crate::words::Word;
 use machine_text::{Dir, State, Table};
 use std::alloc::Global;
 use text::append_number;

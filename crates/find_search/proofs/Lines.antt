@@ -1,22 +1,28 @@
--- What is known of tables, and which lines are refused, once lines were taken.
-use Rattle.std.proofs.Common.{◌≡◌, ◌⊎◌, inl, inr, ℕ, Bool, true, false, List, [], ◌∷◌, Option, Some, None, Result, Ok, Err, refl, sym, ◌∙◌, ap, subst, cond}
+-- What is known of tables, and which lines are refused, once lines were taken and texts appended.
+use Rattle.std.proofs.Common.{◌≡◌, ℕ, List, ◌++◌, cond, Result, Ok, Err, OnOk, ◌⊎◌, inl, inr, Bool, true, false, [], ◌∷◌, Option, Some, None, refl, sym, ◌∙◌, ap, subst}
+use Rattle.std.specs.Result.{is_ok}
 use Rattle.std.specs.Prelude.{◌||◌, is_none, is_some, option_map}
 use Rattle.std.specs.Option.{option_or}
 use Rattle.std.specs.BTreeMap.{get, is_at}
-use Rattle.machine_text.specs.Packed.{Packed}
-use Rattle.machine_text.specs.Order.{table_cmp}
-use Rattle.text.specs.Lines.{BoundedLine, bounded_line}
-use Rattle.cert.specs.Claim.{Claim, HaltsClaim, NeverClaim, NoClaim, Recorded}
-use Rattle.cert.specs.declared.record_fault.RecordFault.{RecordFault}
+use Rattle.machine_text.specs.Terms.{Packed, table_cmp}
+use Rattle.text.specs.Terms.{BoundedLine, bounded_line}
+use Rattle.cert.specs.Terms.{Claim, HaltsClaim, NeverClaim, NoClaim, Recorded}
+use Rattle.cert.specs.declared.record.RecordFault.{RecordFault}
 use Rattle.ledger.proofs.Sets.{at_is}
-use Rattle.cmd_lines.specs.Answer.{read_line}
-use Rattle.cmd_lines.specs.Taken.{AreTakenInTurn}
-use Rattle.find_search.specs.Known.{Saying, first_said, known_of, said_by, said_in, saying, some_claim, tells_nothing, untold}
-use Rattle.find_search.specs.Refusals.{next_number, no_refusals, with_number, with_numbers}
+use Rattle.cmd_lines.specs.Terms.{read_line, AreTakenInTurn}
+use Rattle.find_search.specs.Known.{Saying, first_said, known_of, said_by, said_in, saying, some_claim, tells_nothing, untold, next_number, no_refusals, with_number, with_numbers}
 use Rattle.find_search.specs.inside.{IsNews, LineTells, LinesTell, RecordKept}
 use Rattle.find_search.specs.declared.known.Known.{Known}
-use Rattle.find_search.specs.declared.refusals.Refusals.{Refusals}
+use Rattle.find_search.specs.declared.known.Refusals.{Refusals}
 
+-- Texts that are appended.
+
+-- a text that is appended last
+pub appended_last : {T E : Type 0} (r : Result T E) (old text new : List ℕ) → new ≡ cond (is_ok r) (old ++ text) old → OnOk r (new ≡ old ++ text)
+appended_last (Ok x) old text new is = is
+appended_last (Err e) old text new is = tt
+
+-- What is known of tables, and which lines are refused, once lines were taken.
 or_none : (o : Option Saying) → option_or o None ≡ o
 or_none None = refl
 or_none (Some x) = refl

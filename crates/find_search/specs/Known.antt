@@ -1,20 +1,62 @@
--- What is known of tables by a text of records, a line each, and what a look-up gives.
-use Rattle.std.specs.Prelude.{◌≡◌, ◌⊎◌, ℕ, Bool, true, List, [], ◌∷◌, Option, Some, None, Result, Ok, Err, ◌||◌, cond, is_none, is_some, option_map}
+-- What is known of tables by a text of records.
+use Rattle.std.specs.Prelude.{ℕ, ◌+◌, ◌^◌, ◌-◌, List, [], ◌∷◌, ◌++◌, Option, Some, None, min, codes, decimal, ◌≡◌, ◌⊎◌, Bool, true, Result, Ok, Err, ◌||◌, cond, is_none, is_some, option_map}
 use Rattle.std.specs.Option.{option_or}
 use Rattle.std.specs.BTreeMap.{get, is_at}
-use Rattle.machine_text.specs.Packed.{Packed}
-use Rattle.machine_text.specs.Order.{table_cmp}
-use Rattle.text.specs.Lines.{bounded_line}
-use Rattle.cert.specs.Asking.{IsPassedOver, ShowsVerdict}
-use Rattle.cert.specs.Claim.{Claim, HaltsClaim, NeverClaim, NoClaim, Recorded}
-use Rattle.cert.specs.Kinds.{owned_claim}
-use Rattle.cert.specs.declared.record_fault.RecordFault.{RecordFault}
-use Rattle.cmd_lines.specs.Answer.{read_line}
-use Rattle.cmd_ledgers.specs.Reading.{AreFirstBytes}
-use Rattle.cmd_lines.specs.Lines.{AreLines}
-use Rattle.find_search.specs.Refusals.{next_number, no_refusals, with_number, with_numbers}
-use Rattle.find_search.specs.declared.told.Told.{Told}
+use Rattle.std.specs.Borrow.{Bor}
+use Rattle.find_search.specs.declared.known.Refusals.{Refusals}
+use Rattle.machine_text.specs.Terms.{Packed, table_cmp}
+use Rattle.text.specs.Terms.{bounded_line}
+use Rattle.cert.specs.Terms.{IsPassedOver, ShowsVerdict, Claim, HaltsClaim, NeverClaim, NoClaim, Recorded, owned_claim}
+use Rattle.cert.specs.declared.record.RecordFault.{RecordFault}
+use Rattle.cmd_lines.specs.Terms.{read_line, AreLines}
+use Rattle.cmd_ledgers.specs.Terms.{AreFirstBytes}
+use Rattle.find_search.specs.declared.known.Told.{Told}
 use Rattle.find_search.specs.declared.known.Known.{Known}
+use Rattle.cmd_options.specs.declared.options.Options.{Options}
+use Rattle.cmd_options.specs.declared.options.Options.TheVariants.{Check, Decide, Explain, Show, Tables, Coord, CoordPart, Work, Run, Loop, Retry, Merge, Carry, Mend, Split, Settle, Walk, Join, Look, Draw, Page, Report}
+
+-- Refused lines: how many, and which is the first.
+
+-- the number after one; no text has so many lines that they end
+abbrev pub next_number : ℕ → ℕ
+next_number n = min (n + 1) (2 ^ 64 - 1)
+
+abbrev pub no_refusals : Refusals
+no_refusals = record { count = 0; first = None }
+
+-- the lesser of a number and one that there may be
+abbrev pub least : Option ℕ → ℕ → ℕ
+least None n = n
+least (Some m) n = min m n
+
+-- one line more
+abbrev pub with_number : Refusals → ℕ → Refusals
+with_number refused line = record { count = next_number refused.count; first = Some (least refused.first line) }
+
+abbrev pub with_numbers : Refusals → List ℕ → Refusals
+with_numbers refused [] = refused
+with_numbers refused (line ∷ lines) = with_numbers (with_number refused line) lines
+
+-- how many there are, behind the path of their file
+abbrev pub count_behind : List ℕ → ℕ → List ℕ
+count_behind path count = path ++ codes ": " ++ decimal count
+
+-- and which is the first
+abbrev pub first_refused : ℕ → List ℕ
+first_refused first = codes " refused, the first in line " ++ decimal first ++ 10 ∷ []
+
+abbrev pub refusals_line : List ℕ → ℕ → ℕ → List ℕ
+refusals_line path count first = count_behind path count ++ first_refused first
+
+-- what is said of them, which is nothing where there are none
+abbrev pub said_of : List ℕ → ℕ → Option ℕ → List ℕ
+said_of path count None = []
+said_of path count (Some first) = refusals_line path count first
+
+abbrev pub refusals_text : List ℕ → Refusals → List ℕ
+refusals_text path refused = said_of path refused.count refused.first
+
+-- What is known of tables by a text of records, a line each, and what a look-up gives.
 
 -- what is said of a table: a claim, and the number of the line that has it
 pub record Saying : Type 0 where
@@ -88,3 +130,30 @@ IsRefused (Some said) old p new =
 abbrev pub IsLookedUp : Known → Packed → Option Claim → Known → Type 0
 IsLookedUp old p (Some given) new = new ≡ old
 IsLookedUp old p None new = IsRefused (known_of old p) old p new
+
+-- Where a command that searches for certificates is to look first.
+
+-- the file of records that were found elsewhere; none where none is asked for, or nothing is searched for
+abbrev pub known_in : Options → Option (Bor (List ℕ))
+known_in (Decide d) = d.search.known
+known_in (Retry r) = r.search.known
+known_in (Run p ledger) = p.search.known
+known_in (Loop p ledger) = p.search.known
+known_in (Split p) = p.search.known
+known_in (Settle p) = p.search.known
+known_in (Walk w) = w.search.known
+known_in (Work w) = w.search.known
+known_in (Check checking) = None
+known_in (Explain explaining) = None
+known_in (Show showing) = None
+known_in (Tables listing) = None
+known_in (Draw drawing) = None
+known_in (Coord beginning ledger listening) = None
+known_in (CoordPart coordinating) = None
+known_in (Merge merging) = None
+known_in (Carry carrying) = None
+known_in (Mend mending) = None
+known_in (Report reporting) = None
+known_in (Page paging) = None
+known_in (Join joining) = None
+known_in (Look looking) = None

@@ -1,4 +1,3 @@
-pub mod Asked
-pub mod Refusals
 pub mod Known
 pub mod inside
+pub mod Terms

@@ -2,14 +2,12 @@
 use Rattle.std.specs.Prelude.{◌≡◌, ℕ, List, Option, Some, None, Result, Ok, true, false, cond}
 use Rattle.std.specs.Option.{option_or}
 use Rattle.std.specs.BTreeMap.{is_at}
-use Rattle.machine_text.specs.Packed.{Packed}
-use Rattle.machine_text.specs.Order.{table_cmp}
-use Rattle.text.specs.Lines.{BoundedLine}
-use Rattle.cert.specs.Claim.{Recorded}
-use Rattle.cert.specs.declared.record_fault.RecordFault.{RecordFault}
-use Rattle.cmd_lines.specs.Answer.{read_line}
-use Rattle.find_search.specs.Known.{Saying, first_said, known_of, said_by, saying, tells_nothing, untold}
-use Rattle.find_search.specs.Refusals.{next_number, with_number, with_numbers}
+use Rattle.machine_text.specs.Terms.{Packed, table_cmp}
+use Rattle.text.specs.Terms.{BoundedLine}
+use Rattle.cert.specs.Terms.{Recorded}
+use Rattle.cert.specs.declared.record.RecordFault.{RecordFault}
+use Rattle.cmd_lines.specs.Terms.{read_line}
+use Rattle.find_search.specs.Known.{Saying, first_said, known_of, said_by, saying, tells_nothing, untold, next_number, with_number, with_numbers}
 use Rattle.find_search.specs.declared.known.Known.{Known}
 
 -- the record of what was read, where that tells something

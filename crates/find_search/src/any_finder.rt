@@ -1,9 +1,8 @@
 // The finders that the command line can ask for.
 ghost use Rattle.std.specs.Prelude.{◌≡◌, IfErr};
 
-use crate::hard_finder::HardFinder;
-use crate::known_file::KnownFile;
-use crate::saving::Searcher;
+use crate::known_file::{KnownFile, Searcher};
+use crate::stages::HardFinder;
 use backward::BackwardFinder;
 use cert::{Decided, Finder, Finders, OwnedCertificate, OwnedRecord};
 use cmd_options::{Ended, LETTERS, Search};

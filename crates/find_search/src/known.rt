@@ -1,23 +1,83 @@
-// What is known of tables by the records of a text.
-ghost use Rattle.std.specs.Prelude.{◌≡◌, IfOk, OnErr, OnOk, is_none, option_map};
-ghost use Rattle.machine_text.specs.Packed.{Packed};
-ghost use Rattle.cert.specs.Kinds.{owned_claim, recorded};
-ghost use Rattle.cmd_lines.specs.Answer.{read_line};
-ghost use Rattle.cmd_lines.specs.Taken.{lent};
+// What is known of tables by the records of a text, and lines that tell nothing.
+ghost use Rattle.std.specs.Prelude.{◌≡◌, false, IsTrue, IfOk, Some, OnErr, OnOk, is_none, option_map};
+ghost use Rattle.find_search.specs.Known.{no_refusals, with_number, IsGiven, IsLookedUp, known_of, some_claim, IsKnownBy};
+ghost use Rattle.cert.specs.Terms.{IsPassedOver, ShowsVerdict, owned_claim, recorded};
+ghost use Rattle.machine_text.specs.Terms.{Packed};
+ghost use Rattle.cmd_lines.specs.Terms.{read_line, lent};
 ghost use Rattle.cmd_options.specs.declared.ended.Ended.TheVariants.{NoMemory as WantsMemory};
-ghost use Rattle.find_search.specs.Known.{IsGiven, IsLookedUp, known_of, some_claim};
-ghost use Rattle.find_search.specs.Refusals.{no_refusals};
 ghost use Rattle.find_search.specs.inside.{IsNews, LineTells, RecordKept};
 
-use crate::refusals::Refusals;
-use crate::told::Told;
-use cert::{Certificate, Finder, OwnedCertificate, Record};
-use cmd_lines::{LineTaker, read_line};
-use cmd_options::Ended;
-use kind_evidence::NoMemory;
+use cert::{Certificate, Finder, OwnedCertificate, Record, judge};
+use cmd_lines::{LineLoop, LineTaker, read_line};
+use cmd_options::{Ended, Stopped};
+use kind_evidence::{NoMemory, Refused};
 use machine_text::Table;
 use std::alloc::Global;
 use std::collections::BTreeMap;
+use std::io::Read;
+
+/// How many lines were refused, and the number of the first of them; the first line of a text is 1.
+#[derive(Clone, Copy, Debug, PartialEq, Eq)]
+pub struct Refusals {
+    /// How many.
+    pub count: u64,
+    /// The first; none where none was refused.
+    pub first: Option<u64>,
+}
+
+impl Refusals {
+    /// None yet.
+    pub(crate) const fn none() -> Refusals
+        ensures { result ≡ no_refusals }
+    {
+        Refusals {
+            count: 0,
+            first: None,
+        }
+    }
+
+    /// The refusals and a line more, by its number.
+    pub(crate) fn with_number(self, line: u64) -> Refusals
+        ensures { result ≡ with_number self line }
+    {
+        let first = match self.first {
+            Some(first) if first < line => first,
+            _ => line,
+        };
+        Refusals {
+            count: self.count.saturating_add(1),
+            first: Some(first),
+        }
+    }
+}
+
+// The certificate of a line's record, and the line's number.
+#[derive(Drop)]
+pub(crate) struct Told {
+    pub line: u64,
+    pub certificate: OwnedCertificate,
+}
+
+impl Told {
+    // Whether that claims something of a table, and stands.
+    pub fn stands(&self, alloc: Global, t: &Table) -> Result<bool, NoMemory>
+        ensures stands { IfOk result
+            (λ stands. IsTrue stands → ShowsVerdict t.now (Some (owned_claim self.now.certificate))) }
+        ensures passed { IfOk result
+            (λ stands. stands ≡ false → IsPassedOver t.now (Some (owned_claim self.now.certificate))) }
+    {
+        // The parts by their names: the borrow checker's proof has to know of what the record is made.
+        let record = Record {
+            table: *t,
+            certificate: self.certificate.lent(),
+        };
+        match judge(alloc, &record) {
+            Ok(verdict) => Ok(verdict.is_some()),
+            Err(Refused::NotSeen | Refused::NoMemory) => Err(NoMemory),
+            Err(_) => Ok(false),
+        }
+    }
+}
 
 /// Certificates that were found elsewhere, by their tables, and which lines were refused.
 #[derive(Drop)]
@@ -142,4 +202,17 @@ fn claims_nothing(found: &Record<'_>) -> bool
         Certificate::Undecided => true,
         _ => false,
     }
+}
+
+/// What is known by the first bytes of a reader, so many bytes at most: of each table the claim of the first line that
+/// is a record of it and claims something; the other lines are refused. A line of over 65,000 bytes is no record.
+/// Nothing is judged.
+pub fn read_known<R: Read>(alloc: Global, from: &mut R, limit: u64) -> Result<Known, Stopped>
+    ensures { IfOk result (IsKnownBy (R.remaining from.old) limit) }
+{
+    let mut known = Known::new(alloc);
+    let mut lines = LineLoop::new(alloc);
+    lines.take_from(from, limit, &mut known)?;
+    lines.end(&mut known)?;
+    Ok(known)
 }

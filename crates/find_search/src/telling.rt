@@ -1,9 +1,9 @@
 // What is said of refused lines.
 ghost use Rattle.std.specs.Prelude.{◌≡◌, ◌⊎◌, ◌++◌, IfErr, OnOk};
 ghost use Rattle.std.specs.Io.KnownBytes.{Appends};
-ghost use Rattle.find_search.specs.Refusals.{count_behind, first_refused, refusals_line, refusals_text};
+ghost use Rattle.find_search.specs.Known.{count_behind, first_refused, refusals_line, refusals_text};
 
-use crate::refusals::Refusals;
+use crate::known::Refusals;
 use cmd_options::{Ended, NoMemory};
 use std::alloc::Global;
 use std::io::Write;

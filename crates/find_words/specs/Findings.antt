@@ -1,13 +1,8 @@
 -- What is so of automata that were found.
 use Rattle.std.specs.Prelude.{◌<◌}
-use Rattle.machine_text.specs.Packed.{Packed}
-use Rattle.cert.specs.Claim.{Claim, NeverClaim}
-use Rattle.cert.specs.Reason.{FarReason, ListedReason}
-use Rattle.far.specs.Automata.{AreAutomataOf}
-use Rattle.far.specs.Limits.{size_limit}
-use Rattle.far.specs.OwnedFar.{owned_automata}
-use Rattle.far.specs.Listed.{AreTextsOf}
-use Rattle.far.specs.OwnedListed.{owned_texts}
+use Rattle.machine_text.specs.Terms.{Packed}
+use Rattle.cert.specs.Terms.{Claim, NeverClaim, FarReason, ListedReason}
+use Rattle.far.specs.Terms.{AreAutomataOf, size_limit, owned_automata, AreTextsOf, owned_texts}
 use Rattle.find_words.specs.declared.word_finder.FoundAutomata.{FoundAutomata}
 use Rattle.find_words.specs.declared.word_finder.FoundAutomata.TheVariants.{Far, Listed}
 

@@ -1,8 +1,6 @@
 // The least second automaton, as far as the blank tape asks for it.
-use crate::first_automaton::{FirstAutomaton, FirstState};
-use crate::links::{END, Links};
-use crate::rows::{Rows, Task, Then};
-use crate::stages::Room;
+use crate::edges::{END, Links, Rows, Task, Then};
+use crate::words::{FirstAutomaton, FirstState, Room};
 use kind_evidence::NoMemory;
 use machine_text::{Dir, Entry, State, Sym, Table};
 use std::alloc::Global;

@@ -1,8 +1,7 @@
 // States of the first automaton that do the same become one.
 use crate::closing::Closing;
-use crate::first_automaton::{FirstAutomaton, FirstState};
-use crate::links::END;
-use crate::rows::Row;
+use crate::edges::{END, Row};
+use crate::words::{FirstAutomaton, FirstState};
 use kind_evidence::NoMemory;
 use machine_text::Sym;
 use std::alloc::Global;

@@ -1,11 +1,11 @@
 // The finder: a first automaton made of words, tried on both sides.
 ghost use Rattle.std.specs.Prelude.{◌≡◌, ◌<◌, ◌≤◌, ℕ, slice_index, IfOk, IfSome};
-ghost use Rattle.cert.specs.Asking.{IsShownRecord};
-ghost use Rattle.far.specs.Limits.{listed_size_limit};
+ghost use Rattle.cert.specs.Terms.{IsShownRecord};
+ghost use Rattle.far.specs.Terms.{listed_size_limit};
 ghost use Rattle.find_words.specs.Findings.{AreFoundOf};
 
 use crate::closing::{Closing, Reduction};
-use crate::stages::{WORD_STAGES, WordStage};
+use crate::words::{WORD_STAGES, WordStage};
 use crate::writing::append_numbers;
 use cert::{Decided, Finder, OwnedCertificate};
 use far::{Listed, OwnedFar, OwnedListed};
@@ -24,7 +24,7 @@ pub enum FoundAutomata {
 }
 
 impl FoundAutomata {
-    ghost use Rattle.cert.specs.Kinds.{owned_claim};
+    ghost use Rattle.cert.specs.Terms.{owned_claim};
     ghost use Rattle.find_words.specs.Findings.{claim_found};
 
     /// The certificate that they are.

@@ -1,7 +1,6 @@
 // What was closed, as automata: their transitions, and the texts of a record.
 use crate::closing::Closing;
-use crate::links::END;
-use crate::rows::Row;
+use crate::edges::{END, Row};
 use kind_evidence::NoMemory;
 use std::alloc::Global;
 use text::append_number;

@@ -1,9 +1,9 @@
 // Counted automata with their cosets, and the evidence that they stand for a table.
-ghost use Rattle.kind_counted.specs.CosetTexts.{AreCosetTexts};
-ghost use Rattle.kind_counted.specs.TextsGiven.{texts_given};
+ghost use Rattle.kind_counted.specs.Kind.{AreCosetTexts};
+ghost use Rattle.kind_counted.specs.OwnedCosets.{texts_given};
 
+use crate::form::Refused as Failed;
 use crate::limits::MAX_COSET_BYTES;
-use crate::refused::Refused as Failed;
 use crate::texts_given::TextsGiven;
 use kind_evidence::{Evidence, Refused, Verdict};
 use machine_text::Table;
@@ -24,11 +24,10 @@ pub struct CountedCosets<'a> {
 
 impl<'a> CountedCosets<'a> {
     ghost use Rattle.std.specs.Prelude.{◌≡◌, ◌+◌, ◌≤◌, ◌↔◌, IsTrue, Err, OnOk, length};
-    ghost use Rattle.machine_text.specs.Limits.{state_limit};
-    ghost use Rattle.text.specs.Fields.{made_of};
-    ghost use Rattle.kind_counted.specs.CosetTexts.{coset_texts, AreCosetsOf};
+    ghost use Rattle.machine_text.specs.Terms.{state_limit};
+    ghost use Rattle.text.specs.Terms.{made_of};
+    ghost use Rattle.kind_counted.specs.Kind.{coset_texts, AreCosetsOf, cosets_by};
     ghost use Rattle.kind_counted.specs.CountedCosets.{coset_texts_of};
-    ghost use Rattle.kind_counted.specs.Fields.{cosets_by};
     ghost use Rattle.kind_counted.specs.Limits.{coset_byte_limit, count_limit};
 
     /// The claim that three texts make, for tables of so many states, where the left and the right automaton have so

@@ -1,27 +1,19 @@
 // Whether counted automata stand for a table.
 ghost use Rattle.std.specs.Prelude.{◌≡◌, ◌≤◌, length, Some, Err, IfOk, OnErr, IfSome};
-ghost use Rattle.machine_text.specs.Packed.{entry_of};
-ghost use Rattle.law_turing.specs.Halting.{Never};
-ghost use Rattle.law_turing.specs.Mirror.{opposite};
-ghost use Rattle.law_machines.specs.Cosets.{zeros, IsMember};
-ghost use Rattle.law_machines.specs.Counted.{delta, HasCoset, Remains, Settled, LeadsOn, CountedStand, moved_to, state_on};
+ghost use Rattle.machine_text.specs.Terms.{entry_of};
+ghost use Rattle.law_turing.specs.Terms.{Never, opposite};
+ghost use Rattle.law_machines.specs.Terms.{zeros, IsMember, delta, HasCoset, Remains, Settled, LeadsOn, CountedStand, moved_to, state_on};
 ghost use Rattle.kind_counted.specs.Limits.{count_limit};
-ghost use Rattle.kind_counted.specs.Automata.{transitions_of};
-ghost use Rattle.kind_counted.specs.Items.{coset_of};
-ghost use Rattle.kind_counted.specs.States.{IsCount};
+ghost use Rattle.kind_counted.specs.Automata.{transitions_of, IsCount};
+ghost use Rattle.kind_counted.specs.Items.{coset_of, IsFormed};
 ghost use Rattle.kind_counted.specs.Certificate.{counted_of};
-ghost use Rattle.kind_counted.specs.Formed.{IsFormed};
-ghost use Rattle.kind_counted.specs.inside.Used.{IsUsedTable};
-ghost use Rattle.kind_counted.specs.inside.Points.{coset_by};
-ghost use Rattle.kind_counted.specs.inside.Judging.{first_of, end_of, SettlesFrom, AllSettle, HasStep, AllGoOn, StartsInside};
+ghost use Rattle.kind_counted.specs.inside.Judging.{IsUsedTable, coset_by, first_of, end_of, SettlesFrom, AllSettle, HasStep, AllGoOn, StartsInside};
 
-use crate::automaton::Automaton;
-use crate::certificate::CountedAutomata;
-use crate::form::{are_own, keeps_blank};
+use crate::certificate::{Automaton, CountedAutomata};
+use crate::form::{Refused, are_own, keeps_blank};
 use crate::item::{Coset, Item};
 use crate::limits::MAX_COUNTS;
 use crate::points::Points;
-use crate::refused::Refused;
 use crate::rows::Row;
 use crate::used::Used;
 use law_machines::{Local, Transition};

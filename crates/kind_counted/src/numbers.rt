@@ -1,12 +1,12 @@
 // A whole number for each count.
 ghost use Rattle.std.specs.Prelude.{◌≡◌, ◌↔◌, ℕ, ◌<◌, ◌≤◌, ℤ, pos, ◌-ℤ◌, ◌*ℤ◌, int_div, IsTrue, IfSome, IfNone, IfOk};
 ghost use Rattle.std.specs.Int.RustNames.{unsigned_abs};
-ghost use Rattle.law_machines.specs.Cosets.{less};
+ghost use Rattle.law_machines.specs.Terms.{less};
 ghost use Rattle.kind_counted.specs.Limits.{number_limit, count_limit};
 ghost use Rattle.kind_counted.specs.Numbers.{AreSmall, no_numbers, point_of};
 
+use crate::form::Refused;
 use crate::limits::{MAX_COUNTS, MAX_NUMBER};
-use crate::refused::Refused;
 use law_machines::Count;
 
 /// A number for each count.
@@ -18,10 +18,9 @@ pub struct Counts {
 
 impl Counts {
     ghost use Rattle.std.specs.Prelude.{◌+ℤ◌, set, false};
-    ghost use Rattle.law_machines.specs.Counted.{once};
-    ghost use Rattle.kind_counted.specs.States.{IsCount};
-    ghost use Rattle.kind_counted.specs.inside.Rows.{IsCleared};
-    ghost use Rattle.kind_counted.specs.inside.Spans.{IsLessened};
+    ghost use Rattle.law_machines.specs.Terms.{once};
+    ghost use Rattle.kind_counted.specs.Automata.{IsCount};
+    ghost use Rattle.kind_counted.specs.inside.Judging.{IsCleared, IsLessened};
 
     // 0 for each count.
     pub(crate) fn zeros() -> Counts

@@ -1,25 +1,109 @@
-// A base, and all points that are further by multiples of some rows.
-ghost use Rattle.std.specs.Prelude.{◌≡◌, ◌↔◌, ◌+◌, ◌-◌, ◌<◌, ◌≤◌, pos, List, IsTrue, IfSome, IfOk, OnErr, slice_index};
+// The points that are left after a step, and rows taken off one another until one alone has a number in a place.
+ghost use Rattle.std.specs.Prelude.{◌≡◌, ◌<◌, IfOk, List, [], ◌∷◌, ◌++◌, IfSome, OnOk, ◌↔◌, ◌+◌, ◌-◌, ◌≤◌, pos, IsTrue, OnErr, slice_index};
 ghost use Rattle.std.specs.Int.RustNames.{unsigned_abs};
-ghost use Rattle.law_machines.specs.Cosets.{Point, IsMember};
-ghost use Rattle.kind_counted.specs.Items.{coset_of};
-ghost use Rattle.kind_counted.specs.States.{IsCount};
 ghost use Rattle.kind_counted.specs.Limits.{count_limit};
 ghost use Rattle.kind_counted.specs.Numbers.{point_of};
+ghost use Rattle.kind_counted.specs.inside.Judging.{IsParted, listed, IsSplit, coset_by, AreMoved, AreZeroMembers, AreKeptIn, IsZeroIn, AreZeroAt, IsNegativeAt, IsNegative, AreSumsOf, LiesWithin};
+ghost use Rattle.law_machines.specs.Terms.{Point, IsMember};
+ghost use Rattle.kind_counted.specs.Items.{coset_of};
+ghost use Rattle.kind_counted.specs.Automata.{IsCount};
 ghost use Rattle.kind_counted.specs.Pivots.{points};
-ghost use Rattle.kind_counted.specs.inside.Spans.{listed, IsSplit};
-ghost use Rattle.kind_counted.specs.inside.Points.{coset_by, AreMoved, AreZeroMembers, AreKeptIn, IsZeroIn, AreZeroAt, IsNegativeAt, IsNegative, AreSumsOf, LiesWithin};
 ghost use Rattle.kind_counted.specs.declared.numbers.Counts.{Counts};
 
+use crate::form::Refused;
 use crate::item::Coset;
 use crate::limits::MAX_COUNTS;
 use crate::numbers::Counts;
-use crate::refused::Refused;
 use crate::rows::Row;
-use crate::splitting::{Split, split_at};
 use crate::used::Used;
 use law_machines::Count;
 use std::alloc::Global;
+
+// Two rows, of which the first alone has a number in a place.
+#[derive(Clone, Copy)]
+pub(crate) struct Parted {
+    pub carrier: Counts,
+    pub other: Counts,
+}
+
+// Takes two rows off each other, as in Euclid's algorithm.
+pub(crate) fn part(first: &Counts, second: &Counts, place: usize) -> Result<Parted, Refused>
+    requires place { place < count_limit }
+    requires some { 0 < unsigned_abs (point_of first.now.numbers place) }
+    ensures parted { IfOk result (λ p. IsParted (point_of first.now.numbers) (point_of second.now.numbers) place
+        (point_of p.carrier.numbers) (point_of p.other.numbers)) }
+    ensures large { result ≡ Err Refused.Fails → ⊥ }
+{
+    let mut carrier = *first;
+    let mut other = *second;
+    'parting: while other.numbers[place] != 0 {
+        let rest = carrier.lessened(&other, place)?;
+        carrier = other;
+        other = rest;
+    }
+    Ok(Parted { carrier, other })
+}
+
+// The carrier alone has a number in a place, if there is one.
+#[derive(Drop)]
+pub(crate) struct Split {
+    pub carrier: Option<Counts>,
+    pub rest: Vec<Counts>,
+}
+
+// Takes rows off one another until one alone has a number in a place.
+pub(crate) fn split_at(alloc: Global, rows: &[Counts], place: usize) -> Result<Split, Refused>
+    requires { place < count_limit }
+    ensures split { IfOk result (λ s. IsSplit (listed rows.now) place s.carrier (listed s.rest.items)) }
+    ensures large { result ≡ Err Refused.Fails → ⊥ }
+{
+    let mut split = Split {
+        carrier: None,
+        rest: Vec::new(alloc),
+    };
+    for row in rows {
+        split.add(row, place)?;
+    }
+    Ok(split)
+}
+
+impl Split {
+    // Takes one row more into account.
+    fn add(&mut self, row: &Counts, place: usize) -> Result<(), Refused>
+        requires place { place < count_limit }
+        requires some { IfSome self.old.carrier (λ c. 0 < unsigned_abs (point_of c.numbers place)) }
+        ensures added { OnOk result
+            ((rows : List Point) → IsSplit rows place self.old.carrier (listed self.old.rest.items) →
+            IsSplit (rows ++ point_of row.now.numbers ∷ []) place self.new.carrier (listed self.new.rest.items)) }
+        ensures large { result ≡ Err Refused.Fails → ⊥ }
+    {
+        match self.carrier {
+            Some(carrier) => {
+                let Parted { carrier, other } = part(&carrier, row, place)?;
+                self.carrier = Some(carrier);
+                self.rest.push(other)?;
+                Ok(())
+            }
+            None => self.add_first(row, place),
+        }
+    }
+
+    // Takes one row more into account where there is no carrier yet.
+    fn add_first(&mut self, row: &Counts, place: usize) -> Result<(), Refused>
+        requires place { place < count_limit }
+        requires none { self.old.carrier ≡ None }
+        ensures added { OnOk result ((rows : List Point) → IsSplit rows place None (listed self.old.rest.items) →
+            IsSplit (rows ++ point_of row.now.numbers ∷ []) place self.new.carrier (listed self.new.rest.items)) }
+        ensures large { result ≡ Err Refused.Fails → ⊥ }
+    {
+        if row.numbers[place] != 0 {
+            self.carrier = Some(*row);
+            return Ok(());
+        }
+        self.rest.push(*row)?;
+        Ok(())
+    }
+}
 
 /// The points that are left after a step.
 #[derive(Drop)]

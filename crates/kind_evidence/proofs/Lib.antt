@@ -1,4 +1,1 @@
-pub mod Tested
-pub mod Sides
-pub mod Letters
-pub mod Room
+pub mod EvidenceLaws

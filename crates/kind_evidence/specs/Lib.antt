@@ -1,5 +1,2 @@
-pub mod Tests
 pub mod Verdict
-pub mod Side
-pub mod Meaning
-pub mod Kind
+pub mod Terms

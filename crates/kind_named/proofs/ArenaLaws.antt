@@ -3,12 +3,10 @@ use Rattle.std.proofs.Common.{◌≡◌, ℕ, zero, suc, ◌+◌, ◌-◌, ◌<�
 use Rattle.std.proofs.lemmas.List.{get_or_append_left, get_or_past, append-nil}
 use Rattle.std.proofs.Math.Seq.{get_or-append_seam}
 use Rattle.std.proofs.lemmas.Bool.{cases_lt}
-use Rattle.kind_named.specs.inside.Words.{AreOdd, AreLong}
-use Rattle.kind_named.specs.inside.Jumps.{rope_times}
-use Rattle.kind_named.specs.declared.node.Node.{Node}
-use Rattle.kind_named.specs.declared.node.Node.TheVariants.{Group, Joined, Repeated}
-use Rattle.kind_named.specs.declared.node.Piece.{Piece}
-use Rattle.kind_named.specs.inside.Arena.{groups_at, node_groups, ropes_of, RopesAdded, RefersBelow, IsPiece, HasGroups, IsArena}
+use Rattle.kind_named.specs.inside.Tokens.{AreOdd, AreLong, rope_times, groups_at, node_groups, ropes_of, RopesAdded, RefersBelow, IsPiece, HasGroups, IsArena}
+use Rattle.kind_named.specs.declared.ropes.Node.{Node}
+use Rattle.kind_named.specs.declared.ropes.Node.TheVariants.{Group, Joined, Repeated}
+use Rattle.kind_named.specs.declared.ropes.Piece.{Piece}
 use Rattle.kind_named.proofs.Sweeps.{odd_append, long_append}
 
 pub meanings_push : (ps : List Piece) (ropes : List (List ℕ)) (p : Piece) → ropes_of ropes (ps ++ p ∷ []) ≡ ropes_of ropes ps ++ node_groups (ropes_of ropes ps) p.node ∷ []
@@ -173,9 +171,6 @@ joined ropes a b l p q oa ob long = record {
 pub repeated : (ropes : List (List ℕ)) (a n : ℕ) (l : Bool) → a < length ropes → AreOdd (groups_at ropes a) → (l ≡ true → AreLong (groups_at ropes a)) →
     IsPiece ropes (record { node = Repeated a n; is_long = l })
 repeated ropes a n l p odd long = record { refers = p; odd = odd_times n (groups_at ropes a) odd; long = λ yes. long_times n (groups_at ropes a) (long yes) }
-
-pub times_one : (gs : List ℕ) → gs ≡ rope_times 1 gs
-times_one gs = sym (append-nil gs)
 
 pub times_last : (k : ℕ) (gs : List ℕ) → rope_times k gs ++ gs ≡ gs ++ rope_times k gs
 times_last zero gs = sym (append-nil gs)

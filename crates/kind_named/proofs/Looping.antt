@@ -1,30 +1,57 @@
--- The main run, put together.
-use Rattle.std.proofs.Common.{◌≡◌, ℕ, suc, ◌+◌, ◌≤◌, List, [], length, sym, ◌∙◌, ap, subst, refl, arith}
-use Rattle.machine_text.specs.declared.transition.Sym.{Sym}
-use Rattle.machine_text.specs.Packed.{entry_of}
-use Rattle.law_turing.specs.Halting.{Never}
-use Rattle.law_turing.specs.Run.{start}
+-- A jump is put together from its parts, and so is the main run, which never ends.
+use Rattle.std.proofs.Common.{◌≡◌, Bool, true, false, ap, ℕ, List, [], length, ◌∙◌, subst, suc, ◌+◌, ◌≤◌, sym, refl, arith}
+use Rattle.std.proofs.lemmas.Bool.{false≢true}
+use Rattle.kind_named.specs.declared.tokens.Beyond.{Beyond}
+use Rattle.kind_named.specs.declared.tokens.Beyond.TheVariants.{Blank, Unknown}
+use Rattle.machine_text.specs.declared.table.Sym.{Sym}
+use Rattle.kind_named.specs.inside.Tokens.{Visits, tokens_left, RopesBelow, JumpsTo, machine, leftward, rightward, AnswersBy, PutsLeft, SameLeft, EndsWith, BothRopesBelow, Visited}
+use Rattle.kind_named.specs.declared.visit.Answer.TheVariants.{A, C}
+use Rattle.kind_named.specs.declared.tokens.Token.{Token}
+use Rattle.kind_named.specs.declared.jump.Section.{Section}
+use Rattle.kind_named.specs.inside.Sections.{sections_left, TakesOff, Glided}
+use Rattle.kind_named.proofs.Visits.{no_visit, visits_end, visits_go, visits_join, one_visit}
+use Rattle.machine_text.specs.Terms.{entry_of}
+use Rattle.law_turing.specs.Terms.{Never, start}
 use Rattle.law_turing.proofs.RunLaws.{from_add, before}
-use Rattle.law_machines.specs.Zipper.{Zipper, blank_zipper}
-use Rattle.law_machines.specs.Rules.{Comes, Goes}
-use Rattle.law_machines.proofs.Zippers.{describes_start}
-use Rattle.law_machines.proofs.RuleLaws.{same, weakened, ◌⨾◌, ◌⨾⁺◌, ◌⁺⨾◌, never_by_rules}
-use Rattle.kind_named.specs.Table.{skelet1, RunsFor}
-use Rattle.kind_named.specs.inside.Words.{machine, leftward, rightward}
-use Rattle.kind_named.specs.inside.Visits.{AnswersBy}
+use Rattle.law_machines.specs.Terms.{Zipper, blank_zipper, Comes, Goes}
+use Rattle.law_machines.proofs.RuleLaws.{describes_start, same, weakened, ◌⨾◌, ◌⨾⁺◌, ◌⁺⨾◌, never_by_rules}
+use Rattle.kind_named.specs.Kind.{skelet1, RunsFor}
 use Rattle.kind_named.specs.inside.Loop.{VisitsOften, GoesRound, MakesTurn, ComesAfter, RunReaches, Repeats, OnTheWay}
-use Rattle.kind_named.specs.declared.answer.Answer.{Answer}
-use Rattle.kind_named.specs.declared.answer.Answer.TheVariants.{A, C}
-use Rattle.kind_named.specs.declared.beyond.Beyond.{Beyond}
-use Rattle.kind_named.specs.declared.beyond.Beyond.TheVariants.{Unknown}
-use Rattle.kind_named.specs.declared.token.Token.{Token}
-use Rattle.kind_named.specs.declared.token.Token.TheVariants.{Separator}
-use Rattle.kind_named.specs.inside.Tokens.{tokens_left, RopesBelow, PutsLeft, SameLeft, EndsWith, BothRopesBelow, Visited, JumpsTo}
-use Rattle.kind_named.proofs.MachineRules.{end_A, end_C}
-use Rattle.kind_named.proofs.Visits.{visits_end, visits_go, visits_join, one_visit, no_visit}
+use Rattle.kind_named.specs.declared.visit.Answer.{Answer}
+use Rattle.kind_named.specs.declared.tokens.Token.TheVariants.{Separator}
+use Rattle.kind_named.proofs.Sweeps.{end_A, end_C}
 use Rattle.kind_named.proofs.TokenLaws.{left_kept}
-use Rattle.kind_named.proofs.Ends.{unknown_blank}
 
+-- What is to the left of all tokens.
+abbrev is_blank : Beyond → Bool
+is_blank Blank = true
+is_blank Unknown = false
+
+pub unknown_blank : Unknown ≡ Blank → ⊥
+unknown_blank e = false≢true (ap is_blank e)
+
+-- A jump, from its parts.
+module _ (beyond : Beyond) (t : ℕ) (a b c d : List (List ℕ)) (ts us vs ws : List Token) (none taken rest : List Section) (empty : none ≡ []) (g : TakesOff (λ l. l) a b ts us none taken) where
+  gathered : (n : ℕ) (l : List Sym) → sections_left b taken (tokens_left n b us l) ≡ tokens_left n a ts l
+  unfolding sections_left
+  gathered n l = g.text n l ∙ ap (λ x. sections_left a x (tokens_left n a ts l)) empty
+
+  pub jumps_plain : RopesBelow (length c) vs → ((n : ℕ) (l k : List Sym) → Visits A 0 k (tokens_left n b us l) → Visits A t (sections_left b taken k) (tokens_left n c vs l)) → JumpsTo beyond beyond t a c ts vs
+  jumps_plain w run = record {
+    within = w;
+    run = λ n even l free. (l, free, subst (λ x. Visits A t x (tokens_left n c vs l)) (gathered n l) (run n l (tokens_left n b us l) (no_visit A (tokens_left n b us l))));
+  }
+
+  pub jumps_glide : (i : ℕ) → Glided i b c us vs taken rest → RopesBelow (length d) ws →
+      ((n : ℕ) (l k : List Sym) → Visits A i k (tokens_left n c vs l) → Visits A t (sections_left c rest k) (tokens_left n d ws l)) → JumpsTo beyond Unknown t a d ts ws
+  jumps_glide i glided w run = record {
+    within = w;
+    run = λ n even l free.
+        let (k, u, same, visits) = glided.run n even l in
+        (u, (λ open_end. absurd (unknown_blank open_end)), subst (λ x. Visits A t x (tokens_left n d ws u)) (same ∙ gathered n l) (run n u k visits));
+  }
+
+-- The main run, put together.
 pub sound_empty : (ropes : List (List ℕ)) (ts ps : List Token) → RopesBelow (length ropes) ts → ps ≡ [] → BothRopesBelow ropes ts ps
 unfolding RopesBelow
 sound_empty ropes ts ps w is = record { on_left = w; on_right = subst (RopesBelow (length ropes)) (sym is) tt }

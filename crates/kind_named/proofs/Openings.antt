@@ -1,16 +1,18 @@
--- A rope at the end of the left half tape, opened.
-use Rattle.std.proofs.Common.{◌≡◌, ℕ, ◌+◌, ◌-◌, ◌<◌, ◌≤◌, List, [], ◌∷◌, ◌++◌, length, Option, Some, None, option_to_list, sym, ◌∙◌, ap, subst, refl, arith, append_assoc}
-use Rattle.std.proofs.lemmas.List.{append-nil}
-use Rattle.machine_text.specs.declared.transition.Sym.{Sym}
-use Rattle.kind_named.specs.inside.Words.{xs_left, c_left, separator_left, c_right, rope_left, rope_right, wound_left}
-use Rattle.kind_named.specs.inside.Arena.{groups_at, RopesAdded, OpensTo}
+-- Ropes and other tokens at the end of the left half tape, and how a rope is opened.
+use Rattle.std.proofs.Common.{◌≡◌, ℕ, ◌+◌, ◌-◌, ◌<◌, ◌≤◌, List, [], ◌∷◌, ◌++◌, length, Option, Some, None, option_to_list, sym, ◌∙◌, ap, subst, refl, arith, append_assoc, zero, suc, Bool, true, false, get_or, take, drop, length-drop}
+use Rattle.std.proofs.lemmas.List.{append-nil, drop_all, take_all}
+use Rattle.std.proofs.lemmas.Bool.{false≢true}
+use Rattle.std.proofs.Math.Seq.{drop-cons}
+use Rattle.machine_text.specs.declared.table.Sym.{Sym}
+use Rattle.kind_named.specs.inside.Tokens.{xs_left, c_left, separator_left, c_right, rope_left, rope_right, wound_left, groups_at, RopesAdded, OpensTo, token_left, token_right, tokens_left, tokens_right, RopeBelow, RopesBelow, PutsLeft, PutsRight, SameLeft, Pays, EndsWith}
 use Rattle.kind_named.specs.declared.ropes.Opened.{Opened}
-use Rattle.kind_named.specs.declared.token.Token.{Token}
-use Rattle.kind_named.specs.declared.token.Token.TheVariants.{X, Y, Cut, Separator, Rope, Wound}
-use Rattle.kind_named.specs.inside.Tokens.{token_left, token_right, tokens_left, tokens_right, RopeBelow, RopesBelow, PutsLeft, PutsRight, SameLeft, Pays}
-use Rattle.kind_named.proofs.Sweeps.{rope_left_append, rope_left_one, wound_append, wound_one, rope_right_append, rope_right_one, one_c}
-use Rattle.kind_named.proofs.Turns.{xs_left_add}
-use Rattle.kind_named.proofs.TokenLaws.{left_push, right_push, word_l_kept, left_kept, right_kept, within_push, within_first, within_last, within_more}
+use Rattle.kind_named.specs.declared.tokens.Token.{Token}
+use Rattle.kind_named.specs.declared.tokens.Token.TheVariants.{X, Y, Cut, Separator, Rope, Wound}
+use Rattle.kind_named.proofs.Sweeps.{rope_left_append, rope_left_one, wound_append, wound_one, rope_right_append, rope_right_one, one_c, xs_left_add}
+use Rattle.kind_named.proofs.TokenLaws.{left_push, right_push, left_kept, right_kept, within_push, within_first, within_last, within_more, left_append}
+use Rattle.kind_named.specs.inside.Loop.{glider_tokens}
+
+-- A rope at the end of the left half tape, opened.
 
 -- a token that was pushed
 pub pushed : (b : ℕ) (ropes : List (List ℕ)) (t : Token) (ts us : List Token) (l : List Sym) → us ≡ ts ++ t ∷ [] → tokens_left b ropes us l ≡ token_left b ropes t (tokens_left b ropes ts l)
@@ -103,21 +105,10 @@ same_put old new t top ts mid us was is puts = record {
 pub same_back : (ropes : List (List ℕ)) (top : Token) (ts mid us : List Token) → RopesBelow (length ropes) ts → ts ≡ mid ++ top ∷ [] → us ≡ mid ++ top ∷ [] → SameLeft ropes ropes ts us
 same_back ropes top ts mid us w was is = record { within = subst (RopesBelow (length ropes)) (was ∙ sym is) w; text = λ n l. ap (λ x. tokens_left n ropes x l) (is ∙ sym was) }
 
-pub same_none : (ropes : List (List ℕ)) (ts us : List Token) → RopesBelow (length ropes) ts → ts ≡ us ++ [] → SameLeft ropes ropes ts us
-same_none ropes ts us w was =
-    let e : us ≡ ts = sym (append-nil us) ∙ sym was in
-    record { within = subst (RopesBelow (length ropes)) (sym e) w; text = λ n l. ap (λ x. tokens_left n ropes x l) e }
-
 pub same_itself : (ropes : List (List ℕ)) (ts : List Token) → RopesBelow (length ropes) ts → SameLeft ropes ropes ts ts
 same_itself ropes ts w = record { within = w; text = λ n l. refl }
 
-pub same_on : (a b c : List (List ℕ)) (ts us vs : List Token) → SameLeft a b ts us → SameLeft b c us vs → SameLeft a c ts vs
-same_on a b c ts us vs s t = record { within = t.within; text = λ n l. t.text n l ∙ s.text n l }
-
 -- opened first, and put then
-pub puts_after : (a b c : List (List ℕ)) (t : Token) (ts us vs : List Token) → RopesAdded a b → RopeBelow (length a) t → SameLeft a b ts us → PutsLeft b c t us vs → PutsLeft a c t ts vs
-puts_after a b c t ts us vs e w s p = record { within = p.within; text = λ n l. p.text n l ∙ ap (token_left n b t) (s.text n l) ∙ word_l_kept n a b t (tokens_left n a ts l) e w }
-
 pub opens_at : (ropes : List (List ℕ)) (gs : List ℕ) (o p : Opened) → o ≡ p → OpensTo ropes gs o → OpensTo ropes gs p
 opens_at ropes gs o p is h = subst (OpensTo ropes gs) is h
 
@@ -230,3 +221,87 @@ module _ (old new : List (List ℕ)) (e : RopesAdded old new) (i : ℕ) (ts : Li
             pushed_right n new (Rope a) one us r q ∙ ap (rope_right (groups_at new a)) (pushed_right n new (Rope b) ts one r p) ∙
             sym (rope_right_append (groups_at new a) (groups_at new b) (tokens_right n new ts r)) ∙ ap (λ gs. rope_right gs (tokens_right n new ts r)) (sym parts.2) ∙ ap (rope_right (groups_at old i)) (right_same n r);
       }
+
+-- Tokens at the end of the left half tape.
+pub ends_one : (a b : List (List ℕ)) (top t : Token) (ts us mid : List Token) → SameLeft a b ts us → us ≡ mid ++ top ∷ [] → top ≡ t → EndsWith (t ∷ []) a b ts mid
+unfolding tokens_left
+ends_one a b top t ts us mid s was is = record {
+  within = within_rest (length b) top us mid was s.within;
+  text = λ n l. sym (s.text n l) ∙ pushed n b top mid us l was ∙ ap (λ x. token_left n b x (tokens_left n b mid l)) is;
+}
+
+pub ends_none : (a : List (List ℕ)) (tail ts : List Token) (n : ℕ) → RopesBelow (length a) ts → n ≡ length tail → EndsWith (drop n tail) a a ts ts
+unfolding tokens_left
+ends_none a tail ts n w size = record {
+  within = w;
+  text = λ i l. sym (ap (λ x. tokens_left i a x (tokens_left i a ts l)) (drop_all n tail (omega arith)));
+}
+
+within_drop : (k n : ℕ) (ts : List Token) → RopesBelow k ts → RopesBelow k (drop n ts)
+unfolding RopesBelow
+within_drop k zero ts w = w
+within_drop k (suc n) [] w = tt
+within_drop k (suc n) (t ∷ ts) w = within_drop k n ts w.1
+
+pub within_append : (k : ℕ) (xs ys : List Token) → RopesBelow k xs → RopesBelow k ys → RopesBelow k (xs ++ ys)
+unfolding RopesBelow
+within_append k [] ys w v = v
+within_append k (x ∷ xs) ys w v = (w.0, within_append k xs ys w.1 v)
+
+-- a further token before those that were taken
+pub ends_more : (a b c : List (List ℕ)) (tail : List Token) (n k : ℕ) (t o : Token) (ts us vs : List Token) → RopesAdded b c → ((i : ℕ) → RopesBelow i tail) → k + 1 ≡ n → n ≤ length tail → t ≡ get_or tail k o →
+    EndsWith (drop n tail) a b ts us → EndsWith (t ∷ []) b c us vs → EndsWith (drop k tail) a c ts vs
+unfolding tokens_left
+ends_more a b c tail n k t o ts us vs e free next less is p q =
+    let last : drop k tail ≡ t ∷ drop n tail = drop-cons tail k o (omega arith) ∙ ap (λ x. x ∷ drop (suc k) tail) (sym is) ∙ ap (λ i. t ∷ drop i tail) (let z : suc k ≡ n = omega arith in z) in
+    record {
+      within = q.within;
+      text = λ i l.
+          p.text i l ∙ sym (left_kept i b c (drop n tail) (tokens_left i b us l) e (within_drop (length b) n tail (free (length b)))) ∙
+          ap (tokens_left i c (drop n tail)) (q.text i l) ∙ ap (λ x. tokens_left i c x (tokens_left i c vs l)) (sym last);
+    }
+
+-- what was taken put back
+pub ends_back : (a b c : List (List ℕ)) (tail : List Token) (n : ℕ) (ts us vs ws : List Token) → RopesAdded b c → ((i : ℕ) → RopesBelow i tail) →
+    EndsWith (drop n tail) a b ts us → SameLeft b c us vs → ws ≡ vs ++ drop n tail → SameLeft a c ts ws
+ends_back a b c tail n ts us vs ws e free p s is = record {
+  within = subst (RopesBelow (length c)) (sym is) (within_append (length c) vs (drop n tail) s.within (within_drop (length c) n tail (free (length c))));
+  text = λ i l.
+      ap (λ x. tokens_left i c x l) is ∙ left_append i c vs (drop n tail) l ∙ ap (tokens_left i c (drop n tail)) (s.text i l) ∙
+      left_kept i b c (drop n tail) (tokens_left i b us l) e (within_drop (length b) n tail (free (length b))) ∙ sym (p.text i l);
+}
+
+-- a range up to the end
+pub rest_of : (n : ℕ) (ts us vs : List Token) → us ≡ vs ++ take (length ts - n) (drop n ts) → us ≡ vs ++ drop n ts
+rest_of n ts us vs is = is ∙ ap (λ x. vs ++ x) (take_all (length ts - n) (drop n ts) (let e = length-drop n ts in omega arith))
+
+-- what was taken put back as it was
+pub ends_same : (a b : List (List ℕ)) (tail ts us vs : List Token) → ((i : ℕ) → RopesBelow i tail) → EndsWith tail a b ts us → vs ≡ us ++ tail → SameLeft a b ts vs
+ends_same a b tail ts us vs free p is = record {
+  within = subst (RopesBelow (length b)) (sym is) (within_append (length b) us tail p.within (free (length b)));
+  text = λ i l. ap (λ x. tokens_left i b x l) is ∙ left_append i b us tail l ∙ sym (p.text i l);
+}
+
+-- tokens without ropes
+abbrev pub is_free : List Token → Bool
+is_free [] = true
+is_free (X n ∷ ts) = is_free ts
+is_free (Y n ∷ ts) = is_free ts
+is_free (Cut ∷ ts) = is_free ts
+is_free (Separator d ∷ ts) = is_free ts
+is_free (Rope i ∷ ts) = false
+is_free (Wound i ∷ ts) = false
+
+pub free_within : (ts : List Token) → is_free ts ≡ true → (n : ℕ) → RopesBelow n ts
+unfolding RopesBelow
+free_within [] e n = tt
+free_within (X k ∷ ts) e n = (tt, free_within ts e n)
+free_within (Y k ∷ ts) e n = (tt, free_within ts e n)
+free_within (Cut ∷ ts) e n = (tt, free_within ts e n)
+free_within (Separator d ∷ ts) e n = (tt, free_within ts e n)
+free_within (Rope i ∷ ts) e n = absurd (false≢true e)
+free_within (Wound i ∷ ts) e n = absurd (false≢true e)
+
+pub glider_free : (n : ℕ) → RopesBelow n glider_tokens
+unfolding glider_tokens
+glider_free = free_within glider_tokens refl

@@ -1,17 +1,117 @@
--- What the rules make of the words: sweeps over x and over ropes, and the turns at separators.
-use Rattle.std.proofs.Common.{◌≡◌, ℕ, zero, suc, ◌-◌, ◌≤◌, ◌%◌, List, [], ◌∷◌, ◌++◌, ap, refl, arith}
-use Rattle.machine_text.specs.declared.transition.Sym.{Sym}
-use Rattle.machine_text.specs.declared.transition.Sym.TheVariants.{Zero, One}
-use Rattle.machine_text.specs.Packed.{entry_of}
-use Rattle.law_machines.specs.Zipper.{steps}
-use Rattle.law_machines.specs.Rules.{Comes}
-use Rattle.law_machines.proofs.RuleLaws.{run, stay, same, ◌⨾◌}
-use Rattle.kind_named.specs.inside.Words.{machine, other_answer, turned, leftward, rightward, xs_left, c_left, separator_left, xs_right, c_right, rope_left, rope_right, wound_left, AreOdd, AreLong}
-use Rattle.kind_named.specs.declared.answer.Answer.{Answer}
-use Rattle.kind_named.specs.declared.answer.Answer.TheVariants.{A, C}
-use Rattle.kind_named.proofs.Turns.{turned_odd, turned_even, xs_left_last, xs_right_last}
-use Rattle.kind_named.proofs.MachineRules.{rule1, rule2, rule3, rule4, rule56, rule7, rule8, rule9}
+-- The rules of the machine, and what they make of words: sweeps and turns.
+use Rattle.std.proofs.Common.{List, [], ◌∷◌, refl, ◌≡◌, ℕ, zero, suc, ◌+◌, ◌%◌, ◌∙◌, ap, arith, ◌-◌, ◌≤◌, ◌++◌}
+use Rattle.machine_text.specs.declared.table.Sym.{Sym}
+use Rattle.machine_text.specs.declared.table.Sym.TheVariants.{Zero, One}
+use Rattle.machine_text.specs.Terms.{entry_of}
+use Rattle.law_machines.specs.Terms.{steps, Comes, Goes}
+use Rattle.law_machines.proofs.RuleLaws.{run, run⁺, stay, same, ◌⨾◌}
+use Rattle.kind_named.specs.inside.Tokens.{machine, other_answer, leftward, rightward, c_left, c_right, turned, xs_left, xs_right, separator_left, rope_left, rope_right, wound_left, AreOdd, AreLong}
+use Rattle.kind_named.specs.declared.visit.Answer.{Answer}
+use Rattle.kind_named.specs.declared.visit.Answer.TheVariants.{A, C}
 
+-- The rules of the machine, each so many steps, and what they make of words.
+
+-- L 101 << R => L << 011 R
+pub rule1 : (l r : List Sym) → Comes machine (leftward (One ∷ Zero ∷ One ∷ l) r) (leftward l (Zero ∷ One ∷ One ∷ r))
+unfolding entry_of steps
+rule1 l r = run machine 3 _ _ refl
+
+-- L 10 << R => L << 01 R
+pub rule2 : (l r : List Sym) → Comes machine (leftward (c_left l) r) (leftward l (c_right r))
+unfolding entry_of steps
+rule2 l r = run machine 6 _ _ refl
+
+-- L 11 << R => L 0101 A> R
+pub rule3 : (l r : List Sym) → Comes machine (leftward (One ∷ One ∷ l) r) (rightward A (One ∷ Zero ∷ One ∷ Zero ∷ l) r)
+unfolding entry_of steps
+rule3 l r = run machine 7 _ _ refl
+
+-- L 00 << R => L 1101 C> R
+pub rule4 : (l r : List Sym) → Comes machine (leftward (Zero ∷ Zero ∷ l) r) (rightward C (One ∷ Zero ∷ One ∷ One ∷ l) r)
+unfolding entry_of steps
+rule4 l r = run machine 9 _ _ refl
+
+-- L C> 011 R => L 101 A> R, and the same with A and C exchanged
+pub rule56 : (a : Answer) (l r : List Sym) → Comes machine (rightward a l (Zero ∷ One ∷ One ∷ r)) (rightward (other_answer a) (One ∷ Zero ∷ One ∷ l) r)
+unfolding entry_of steps
+rule56 A l r = run machine 5 _ _ refl
+rule56 C l r = run machine 5 _ _ refl
+
+-- L A> 01 R => L 10 C> R
+pub rule7 : (l r : List Sym) → Comes machine (rightward A l (c_right r)) (rightward C (c_left l) r)
+unfolding entry_of steps
+rule7 l r = run machine 2 _ _ refl
+
+-- L C> 0101 R => L 1101 C> R
+pub rule8 : (l r : List Sym) → Comes machine (rightward C l (c_right (c_right r))) (rightward C (One ∷ Zero ∷ One ∷ One ∷ l) r)
+unfolding entry_of steps
+rule8 l r = run machine 4 _ _ refl
+
+-- L C> 01011 R => L 1 << 01 R
+pub rule9 : (l r : List Sym) → Comes machine (rightward C l (c_right (Zero ∷ One ∷ One ∷ r))) (leftward (One ∷ l) (c_right r))
+unfolding entry_of steps
+rule9 l r = run machine 8 _ _ refl
+
+-- L C> 0* => L 1 << 0*, and L A> 0* => L << 0*
+pub end_C : (l : List Sym) → Goes machine (rightward C l []) (leftward (One ∷ l) [])
+unfolding entry_of steps
+end_C l = run⁺ machine 3 _ _ refl
+
+pub end_A : (l : List Sym) → Goes machine (rightward A l []) (leftward l [])
+unfolding entry_of steps
+end_A l = run⁺ machine 2 _ _ refl
+
+-- The laws of words: a further x may stand first or last, and what so many of them make of an answer.
+pub other_other : (a : Answer) → other_answer (other_answer a) ≡ a
+other_other A = refl
+other_other C = refl
+
+pub turned_first : (a : Answer) (n : ℕ) → turned a (suc n) ≡ turned (other_answer a) n
+unfolding turned
+turned_first a n = refl
+
+pub turned_two : (a : Answer) (n : ℕ) → turned a (suc (suc n)) ≡ turned a n
+unfolding turned
+turned_two a n = ap (λ b. turned b n) (other_other a)
+
+pub turned_even : (a : Answer) (n : ℕ) → n % 2 ≡ 0 → turned a n ≡ a
+unfolding turned
+turned_even a zero e = refl
+turned_even a (suc zero) e = absurd (omega arith)
+turned_even a (suc (suc n)) e = turned_two a n ∙ turned_even a n (omega arith)
+
+pub turned_odd : (a : Answer) (n : ℕ) → n % 2 ≡ 1 → turned a n ≡ other_answer a
+unfolding turned
+turned_odd a zero e = absurd (omega arith)
+turned_odd a (suc zero) e = refl
+turned_odd a (suc (suc n)) e = turned_two a n ∙ turned_odd a n (omega arith)
+
+pub turned_add : (a : Answer) (n k : ℕ) → turned (turned a n) k ≡ turned a (n + k)
+unfolding turned
+turned_add a zero k = ap (turned a) (let p : k ≡ 0 + k = omega arith in p)
+turned_add a (suc n) k = turned_add (other_answer a) n k ∙ ap (turned a) (let p : suc (n + k) ≡ suc n + k = omega arith in p)
+
+pub xs_left_last : (n : ℕ) (l : List Sym) → xs_left n (One ∷ Zero ∷ One ∷ l) ≡ One ∷ Zero ∷ One ∷ xs_left n l
+unfolding xs_left
+xs_left_last zero l = refl
+xs_left_last (suc n) l = ap (λ k. One ∷ Zero ∷ One ∷ k) (xs_left_last n l)
+
+pub xs_right_last : (n : ℕ) (r : List Sym) → xs_right n (Zero ∷ One ∷ One ∷ r) ≡ Zero ∷ One ∷ One ∷ xs_right n r
+unfolding xs_right
+xs_right_last zero r = refl
+xs_right_last (suc n) r = ap (λ k. Zero ∷ One ∷ One ∷ k) (xs_right_last n r)
+
+pub xs_left_add : (n k : ℕ) (l : List Sym) → xs_left n (xs_left k l) ≡ xs_left (n + k) l
+unfolding xs_left
+xs_left_add zero k l = ap (λ i. xs_left i l) (let p : k ≡ 0 + k = omega arith in p)
+xs_left_add (suc n) k l = ap (λ x. One ∷ Zero ∷ One ∷ x) (xs_left_add n k l) ∙ ap (λ i. xs_left i l) (let p : suc (n + k) ≡ suc n + k = omega arith in p)
+
+pub xs_right_add : (n k : ℕ) (r : List Sym) → xs_right n (xs_right k r) ≡ xs_right (n + k) r
+unfolding xs_right
+xs_right_add zero k r = ap (λ i. xs_right i r) (let p : k ≡ 0 + k = omega arith in p)
+xs_right_add (suc n) k r = ap (λ x. Zero ∷ One ∷ One ∷ x) (xs_right_add n k r) ∙ ap (λ i. xs_right i r) (let p : suc (n + k) ≡ suc n + k = omega arith in p)
+
+-- What the rules make of the words: sweeps over x and over ropes, and the turns at separators.
 pub leftward_x : (n : ℕ) (l r : List Sym) → Comes machine (leftward (xs_left n l) r) (leftward l (xs_right n r))
 unfolding xs_left xs_right
 leftward_x zero l r = stay machine _

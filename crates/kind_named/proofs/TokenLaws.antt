@@ -1,13 +1,11 @@
 -- The laws of tokens.
 use Rattle.std.proofs.Common.{◌≡◌, ℕ, ◌+◌, ◌≤◌, List, [], ◌∷◌, ◌++◌, length, sym, ◌∙◌, ap, subst, refl, arith}
 use Rattle.std.proofs.lemmas.List.{append-nil}
-use Rattle.machine_text.specs.declared.transition.Sym.{Sym}
-use Rattle.kind_named.specs.inside.Words.{xs_left, xs_right, rope_left, rope_right, wound_left}
-use Rattle.kind_named.specs.inside.Arena.{RopesAdded}
-use Rattle.kind_named.specs.declared.token.Token.{Token}
-use Rattle.kind_named.specs.declared.token.Token.TheVariants.{X, Y, Cut, Separator, Rope, Wound}
-use Rattle.kind_named.specs.inside.Tokens.{token_left, token_right, tokens_left, tokens_right, RopeBelow, RopesBelow, Merges, PutsLeft, PutsRight}
-use Rattle.kind_named.proofs.Turns.{xs_left_add, xs_right_add}
+use Rattle.machine_text.specs.declared.table.Sym.{Sym}
+use Rattle.kind_named.specs.inside.Tokens.{xs_left, xs_right, rope_left, rope_right, wound_left, RopesAdded, token_left, token_right, tokens_left, tokens_right, RopeBelow, RopesBelow, Merges, PutsLeft, PutsRight}
+use Rattle.kind_named.specs.declared.tokens.Token.{Token}
+use Rattle.kind_named.specs.declared.tokens.Token.TheVariants.{X, Y, Cut, Separator, Rope, Wound}
+use Rattle.kind_named.proofs.Sweeps.{xs_left_add, xs_right_add}
 
 pub left_append : (b : ℕ) (ropes : List (List ℕ)) (ts us : List Token) (l : List Sym) → tokens_left b ropes (ts ++ us) l ≡ tokens_left b ropes us (tokens_left b ropes ts l)
 unfolding tokens_left

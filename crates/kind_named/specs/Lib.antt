@@ -1,5 +1,3 @@
-pub mod Table
-pub mod Followed
-pub mod inside
-pub mod Named
 pub mod Kind
+pub mod inside
+pub mod Terms

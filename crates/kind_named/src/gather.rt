@@ -1,19 +1,15 @@
 // Before a jump: what it goes through is taken off the left half tape, as far as visits from the right are passed on.
 ghost use Rattle.std.specs.Prelude.{◌≡◌, ◌≤◌, length, IfOk, OnOk, IsTrue};
-ghost use Rattle.kind_named.specs.inside.Words.{c_left, separator_left};
-ghost use Rattle.kind_named.specs.inside.Arena.{RopesAdded};
-ghost use Rattle.kind_named.specs.inside.Tokens.{RopesBelow, OnlyOpens};
+ghost use Rattle.kind_named.specs.inside.Tokens.{c_left, separator_left, RopesAdded, RopesBelow, OnlyOpens};
 ghost use Rattle.kind_named.specs.inside.Sections.{TokensAndSectionsBelow, TakesOff, PutsSeparator};
 
-use crate::answer::Answer;
-use crate::given_up::GivenUp;
 use crate::glider::glider;
-use crate::plan::periods_of;
+use crate::jump::{Section, periods_of};
 use crate::ropes::Ropes;
-use crate::section::Section;
+use crate::run::GivenUp;
 use crate::stacks::open_left;
-use crate::tails::ends_with;
-use crate::token::Token;
+use crate::tokens::{Token, ends_with};
+use crate::visit::Answer;
 
 // The most sections of a jump.
 const MAX_SECTIONS: u64 = 1_000_000;

@@ -1,24 +1,18 @@
 // After a jump: the sections are put back, each as the visits leave it.
-ghost use Rattle.std.specs.Prelude.{◌≡◌, ◌≤◌, ◌<◌, ◌+◌, ◌-◌, ◌/◌, ◌%◌, ℕ, length, IfOk, OnOk, IsTrue};
-ghost use Rattle.machine_text.specs.declared.transition.Sym.{Sym};
-ghost use Rattle.std.specs.Prelude.{List};
-ghost use Rattle.kind_named.specs.inside.Words.{turned};
-ghost use Rattle.kind_named.specs.inside.Arena.{RopesAdded};
-ghost use Rattle.kind_named.specs.inside.Visits.{Visits};
-ghost use Rattle.kind_named.specs.inside.Jumps.{separator_answer, paid};
-ghost use Rattle.kind_named.specs.declared.answer.Answer.TheVariants.{A, C};
-ghost use Rattle.kind_named.specs.declared.section.Section.TheVariants.{Separator};
-ghost use Rattle.kind_named.specs.inside.Tokens.{RopesBelow, tokens_left};
+ghost use Rattle.std.specs.Prelude.{◌≡◌, ◌≤◌, ◌<◌, ◌+◌, ◌-◌, ◌/◌, ◌%◌, ℕ, length, IfOk, OnOk, IsTrue, List};
+ghost use Rattle.machine_text.specs.declared.table.Sym.{Sym};
+ghost use Rattle.kind_named.specs.inside.Tokens.{turned, RopesAdded, Visits, separator_answer, paid, RopesBelow, tokens_left};
+ghost use Rattle.kind_named.specs.declared.visit.Answer.TheVariants.{A, C};
+ghost use Rattle.kind_named.specs.declared.jump.Section.TheVariants.{Separator};
 ghost use Rattle.kind_named.specs.inside.Sections.{SectionRopeBelow, TokensAndSectionsBelow, Rebuilds, PutsSeparator, sections_left};
 
-use crate::answer::Answer;
 use crate::gather::put_back;
-use crate::given_up::GivenUp;
-use crate::numbers::sum;
-use crate::ropes::Ropes;
-use crate::section::Section;
+use crate::jump::Section;
+use crate::ropes::{Ropes, sum};
+use crate::run::GivenUp;
 use crate::stacks::put_left;
-use crate::token::Token;
+use crate::tokens::Token;
+use crate::visit::Answer;
 
 // Whether each of so many visits has the answer that is asked.
 fn suits(count: u128, given: Answer, asked: Answer) -> bool

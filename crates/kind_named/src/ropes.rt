@@ -1,10 +1,57 @@
-// Ropes: rows of words c x^g, each g odd, by their numbers. They are only ever added to.
-ghost use Rattle.std.specs.Prelude.{◌≡◌, ◌<◌, ◌≤◌, ◌-◌, ◌%◌, ◌++◌, ◌∷◌, [], ℕ, length, IfOk, OnOk, OnErr, IsTrue};
+// Ropes: rows of words by their numbers, and sums that stay below 2^128.
+ghost use Rattle.std.specs.Prelude.{◌≡◌, ◌+◌, ◌*◌, IfOk, ◌<◌, ◌≤◌, ◌-◌, ◌%◌, ◌++◌, ◌∷◌, [], ℕ, length, OnOk, OnErr, IsTrue};
 
-use crate::given_up::GivenUp;
-use crate::node::{Node, Piece};
+use crate::run::GivenUp;
 use std::alloc::Global;
 use std::marker::Model;
+
+/// A rope, as it is made of earlier ones.
+#[derive(Clone, Copy)]
+pub enum Node {
+    /// One word c x^g.
+    Group(u128),
+    /// Two ropes by their numbers, the left one first.
+    Joined(usize, usize),
+    /// A rope by its number, so many times.
+    Repeated(usize, u128),
+}
+
+/// A rope, and whether each of its groups is known to have three words x or more.
+#[derive(Clone, Copy)]
+pub struct Piece {
+    pub node: Node,
+    pub is_long: bool,
+}
+
+/// The sum of two numbers.
+pub(crate) fn sum(a: u128, b: u128) -> Result<u128, GivenUp>
+    ensures { IfOk result (λ n. n ≡ a + b) }
+{
+    match a.checked_add(b) {
+        Some(n) => Ok(n),
+        None => Err(GivenUp::TooLarge),
+    }
+}
+
+/// The product of two numbers.
+pub(crate) fn product(a: u128, b: u128) -> Result<u128, GivenUp>
+    ensures { IfOk result (λ n. n ≡ a * b) }
+{
+    match a.checked_mul(b) {
+        Some(n) => Ok(n),
+        None => Err(GivenUp::TooLarge),
+    }
+}
+
+/// One turn more.
+pub(crate) fn one_more(turns: u64) -> Result<u64, GivenUp>
+    ensures { IfOk result (λ n. n ≡ turns + 1) }
+{
+    match turns.checked_add(1) {
+        Some(n) => Ok(n),
+        None => Err(GivenUp::TooLong),
+    }
+}
 
 /// All ropes so far.
 #[derive(Drop)]
@@ -14,7 +61,7 @@ pub struct Ropes {
 
 impl Model for Ropes {
     ghost use Rattle.std.specs.Prelude.{ℕ, List, []};
-    ghost use Rattle.kind_named.specs.inside.Arena.{ropes_of, IsArena};
+    ghost use Rattle.kind_named.specs.inside.Tokens.{ropes_of, IsArena};
 
     ghost Value = { List (List ℕ) };
 
@@ -31,9 +78,7 @@ pub enum Opened {
 }
 
 impl Ropes {
-    ghost use Rattle.kind_named.specs.inside.Words.{AreLong, AreOdd};
-    ghost use Rattle.kind_named.specs.inside.Jumps.{rope_times};
-    ghost use Rattle.kind_named.specs.inside.Arena.{groups_at, node_groups, RopesAdded, IsPiece, OpensTo};
+    ghost use Rattle.kind_named.specs.inside.Tokens.{AreLong, AreOdd, rope_times, groups_at, node_groups, RopesAdded, IsPiece, OpensTo};
 
     /// No rope.
     pub fn new(alloc: Global) -> Ropes

@@ -1,13 +1,11 @@
 // The two stacks of tokens, the nearest one last: what is put before a half tape, and what is taken off it.
 ghost use Rattle.std.specs.Prelude.{◌≡◌, ◌≤◌, ◌+◌, ◌-◌, ◌∷◌, [], ℕ, length, IfOk, OnOk, IfSome, IsTrue};
-ghost use Rattle.kind_named.specs.inside.Arena.{RopesAdded};
-ghost use Rattle.kind_named.specs.declared.token.Token.TheVariants.{X, Separator, Rope, Wound};
-ghost use Rattle.kind_named.specs.inside.Tokens.{RopeBelow, RopesBelow, RopeAndTokensBelow, Merges, PutsLeft, PutsRight, OnlyOpens, Pays};
+ghost use Rattle.kind_named.specs.inside.Tokens.{RopesAdded, RopeBelow, RopesBelow, RopeAndTokensBelow, Merges, PutsLeft, PutsRight, OnlyOpens, Pays};
+ghost use Rattle.kind_named.specs.declared.tokens.Token.TheVariants.{X, Separator, Rope, Wound};
 
-use crate::given_up::GivenUp;
-use crate::numbers::sum;
-use crate::ropes::{Opened, Ropes};
-use crate::token::Token;
+use crate::ropes::{Opened, Ropes, sum};
+use crate::run::GivenUp;
+use crate::tokens::Token;
 
 // The most ropes that are opened in a row.
 const MAX_OPENINGS: u64 = 1_000_000;

@@ -1,22 +1,16 @@
 // The rules on tokens: each leads the run from one spot to another.
 ghost use Rattle.std.specs.Prelude.{◌≡◌, ◌<◌, ◌≤◌, ◌+◌, ◌-◌, ◌%◌, ◌∷◌, [], ℕ, length, IfOk, OnOk, IfSome, IsTrue, Bool};
-ghost use Rattle.kind_named.specs.inside.Words.{leftward, rightward, separator_left, c_right, rope_right, AreLong};
-ghost use Rattle.kind_named.specs.inside.Arena.{groups_at, RopesAdded};
-ghost use Rattle.kind_named.specs.declared.beyond.Beyond.{Beyond};
-ghost use Rattle.kind_named.specs.declared.answer.Answer.TheVariants.{A, C};
-ghost use Rattle.kind_named.specs.declared.heading.Heading.TheVariants.{Left, Right};
-ghost use Rattle.kind_named.specs.declared.token.Token.TheVariants.{X};
-ghost use Rattle.kind_named.specs.inside.Tokens.{RopesBelow, RopeAndTokensBelow, RopeBelow, BothRopesBelow, TurnsAt, PassesTo, Winds, Leads, IsPlain};
+ghost use Rattle.kind_named.specs.inside.Tokens.{leftward, rightward, separator_left, c_right, rope_right, AreLong, groups_at, RopesAdded, RopesBelow, RopeAndTokensBelow, RopeBelow, BothRopesBelow, TurnsAt, PassesTo, Winds, Leads, IsPlain};
+ghost use Rattle.kind_named.specs.declared.tokens.Beyond.{Beyond};
+ghost use Rattle.kind_named.specs.declared.visit.Answer.TheVariants.{A, C};
+ghost use Rattle.kind_named.specs.declared.tokens.Heading.TheVariants.{Left, Right};
+ghost use Rattle.kind_named.specs.declared.tokens.Token.TheVariants.{X};
 
-use crate::answer::Answer;
-use crate::beyond::Beyond;
-use crate::cuts::at_cut;
-use crate::given_up::GivenUp;
-use crate::heading::Heading;
 use crate::ropes::Ropes;
-use crate::separator_visit::at_separator;
+use crate::run::GivenUp;
 use crate::stacks::{open_left, open_right, open_wound, pay, put_left, put_right};
-use crate::token::Token;
+use crate::tokens::{Beyond, Heading, Token};
+use crate::visit::{Answer, at_cut, at_separator};
 
 // Whether a token has a word on both sides.
 fn is_plain(token: Token) -> bool

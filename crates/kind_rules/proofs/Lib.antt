@@ -1,4 +1,1 @@
-pub mod Spelling
-pub mod ListLaws
-pub mod KindLaws
-pub mod OwnedLaws
+pub mod RuleLaws

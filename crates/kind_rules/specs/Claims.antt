@@ -1,8 +1,7 @@
 -- The texts of a claim, and those of one that owns them.
-use Rattle.kind_rules.specs.RuleTexts.{RuleTexts, texts_in}
-use Rattle.kind_rules.specs.TextsGiven.{rule_texts_given}
+use Rattle.kind_rules.specs.RuleTexts.{RuleTexts, texts_in, rule_texts_given}
 use Rattle.kind_rules.specs.declared.rules.Rules.{Rules}
-use Rattle.kind_rules.specs.declared.owned_rules.OwnedRules.{OwnedRules}
+use Rattle.kind_rules.specs.declared.rules.OwnedRules.{OwnedRules}
 
 abbrev pub rule_texts_of : Rules → RuleTexts
 rule_texts_of e = rule_texts_given e.texts

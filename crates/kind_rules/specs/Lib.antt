@@ -1,9 +1,7 @@
 pub mod Limits
 pub mod Texts
 pub mod RuleTexts
-pub mod TextsGiven
 pub mod Claims
-pub mod Fields
 pub mod Kind
-pub mod Answers
 pub mod Views
+pub mod Terms

@@ -1,12 +1,13 @@
--- A claim by its texts, and the certificate that they give.
+-- A claim by its texts, the certificate that they give, and the texts that are given.
 use Rattle.std.specs.Prelude.{◌≡◌, ℕ, ◌+◌, ◌≤◌, ◌&&◌, nat_le, if◌then◌else◌, Bool, true, IsTrue, is_some, List, [], ◌∷◌, length, take, drop, Option, Some, None}
-use Rattle.machine_text.specs.Limits.{state_limit}
-use Rattle.machine_text.specs.Packed.{Packed, entry_of}
-use Rattle.text.specs.Parts.{parts_of}
-use Rattle.law_induction.specs.Equations.{◌>>=◌}
-use Rattle.law_induction.specs.Rules.{Certificate, is_certificate}
+use Rattle.machine_text.specs.Terms.{state_limit, Packed, entry_of}
+use Rattle.text.specs.Terms.{parts_of}
+use Rattle.law_induction.specs.Terms.{◌>>=◌, Certificate, is_certificate}
 use Rattle.kind_rules.specs.Limits.{rules_byte_limit}
 use Rattle.kind_rules.specs.Texts.{form_from, four_from, script_from, groups_from}
+use Rattle.kind_rules.specs.declared.texts_given.TextsGiven.{TextsGiven}
+
+-- A claim by its texts, and the certificate that they give.
 
 -- how many states the tables have for which it is made, and the texts of the rules, of the family, of its exponents at
 -- first, of the script that leads there, of the exponents that come next, and of the script that leads to those
@@ -84,3 +85,7 @@ pub record AreRulesOf (t : RuleTexts) (p : Packed) : Type 0 where
   pub given : given_by t ≡ Some certificate
   pub states : t.states ≡ p.states
   pub stand : is_certificate (entry_of p) certificate ≡ true
+
+-- The texts that are given.
+abbrev pub rule_texts_given : TextsGiven → RuleTexts
+rule_texts_given t = rule_texts t.states t.rules.now t.family.now t.first.now t.begin.now t.next.now t.again.now

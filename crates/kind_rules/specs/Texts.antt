@@ -2,21 +2,17 @@
 -- dot, 58 the colon, 59 the semicolon, 94 `^`.
 use Rattle.std.specs.Prelude.{ℕ, ◌+◌, ◌-◌, ◌*◌, ◌==◌, ◌&&◌, nat_lt, nat_le, if◌then◌else◌, Bool, true, false, List, [], ◌∷◌, Option, Some, None, length, take, drop, slice_index, position, codes}
 use Rattle.std.specs.Str.{bytes_eq}
-use Rattle.machine_text.specs.declared.transition.Dir.{Dir}
-use Rattle.machine_text.specs.declared.transition.Dir.TheVariants.{L, R}
-use Rattle.text.specs.Decimal.{decimal_value}
-use Rattle.text.specs.Parts.{parts_of}
-use Rattle.law_induction.specs.declared.block.Exponent.{Exponent}
-use Rattle.law_induction.specs.declared.block.Exponents.{Exponents}
-use Rattle.law_induction.specs.declared.block.Block.{Block}
-use Rattle.law_induction.specs.declared.equation.Equation.{Equation}
-use Rattle.law_induction.specs.declared.equation.Equation.TheVariants.{Split, Spell, Roll, Power, Empty, Blank}
-use Rattle.law_induction.specs.declared.moves.Move.{Move}
-use Rattle.law_induction.specs.declared.moves.Move.TheVariants.{Steps, Turn, Use, Again, Together, Forth, Back}
-use Rattle.law_induction.specs.Words.{exponent_limit, times_with, times_eq, never_once, one_time, block_of}
-use Rattle.law_induction.specs.Forms.{Form, form_with, RuleForm}
-use Rattle.law_induction.specs.Equations.{◌>>=◌}
-use Rattle.law_induction.specs.Rules.{Proved}
+use Rattle.machine_text.specs.declared.table.Dir.{Dir}
+use Rattle.machine_text.specs.declared.table.Dir.TheVariants.{L, R}
+use Rattle.text.specs.Terms.{decimal_value, parts_of}
+use Rattle.law_induction.specs.declared.scripts.Exponent.{Exponent}
+use Rattle.law_induction.specs.declared.scripts.Exponents.{Exponents}
+use Rattle.law_induction.specs.declared.scripts.Block.{Block}
+use Rattle.law_induction.specs.declared.scripts.Equation.{Equation}
+use Rattle.law_induction.specs.declared.scripts.Equation.TheVariants.{Split, Spell, Roll, Power, Empty, Blank}
+use Rattle.law_induction.specs.declared.scripts.Move.{Move}
+use Rattle.law_induction.specs.declared.scripts.Move.TheVariants.{Steps, Turn, Use, Again, Together, Forth, Back}
+use Rattle.law_induction.specs.Terms.{exponent_limit, times_with, times_eq, never_once, one_time, block_of, Form, form_with, RuleForm, ◌>>=◌, Proved}
 use Rattle.kind_rules.specs.Limits.{form_byte_limit, symbol_weight_limit}
 
 -- a number that isn't too large, and one that isn't 0 either

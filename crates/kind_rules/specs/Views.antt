@@ -1,22 +1,36 @@
--- What the structs of the code say.
-use Rattle.std.specs.Prelude.{List, map, option_map}
+-- What the structs of the code say, and how the check's steps answer.
+use Rattle.std.specs.Prelude.{◌≡◌, Bool, true, false, Option, Some, None, Result, Ok, Err, List, map, option_map}
 use Rattle.std.specs.Global.{Vec}
-use Rattle.machine_text.specs.Packed.{entry_of}
+use Rattle.kind_rules.specs.declared.running.Stop.{Stop}
+use Rattle.kind_rules.specs.declared.running.Stop.TheVariants.{Fails, NoMemory}
+use Rattle.machine_text.specs.Terms.{entry_of}
 use Rattle.kind_rules.specs.declared.form.Form.{Form as FormIn}
 use Rattle.kind_rules.specs.declared.form.Rule.{Rule}
-use Rattle.kind_rules.specs.declared.queues.Queues.{Queues}
+use Rattle.kind_rules.specs.declared.form.Queues.{Queues}
 use Rattle.kind_rules.specs.declared.sides.BothSides.{BothSides}
-use Rattle.kind_rules.specs.declared.unpacked.ProvedRule.{ProvedRule}
-use Rattle.kind_rules.specs.declared.unpacked.Unpacked.{Unpacked}
-use Rattle.kind_rules.specs.declared.setting.Setting.{Setting as SettingIn}
-use Rattle.kind_rules.specs.declared.number_text.Factor.{Factor}
+use Rattle.kind_rules.specs.declared.texts_given.ProvedRule.{ProvedRule}
+use Rattle.kind_rules.specs.declared.texts_given.Unpacked.{Unpacked}
+use Rattle.kind_rules.specs.declared.running.Setting.{Setting as SettingIn}
+use Rattle.kind_rules.specs.declared.numbers.Factor.{Factor}
 use Rattle.kind_rules.specs.declared.rule_text.OpenEnds.{OpenEnds}
-use Rattle.law_induction.specs.Forms.{Form, form_with, RuleForm}
-use Rattle.law_induction.specs.Equations.{Sides, sides_of}
-use Rattle.law_induction.specs.Scripts.{Setting}
-use Rattle.law_induction.specs.Rules.{Proved, Certificate, forms_of, all_forms}
+use Rattle.law_induction.specs.Terms.{Form, form_with, RuleForm, Sides, sides_of, Setting, Proved, Certificate, forms_of, all_forms}
 use Rattle.kind_rules.specs.Texts.{Factored, RuleEnds}
 
+-- How the check's own steps answer: as the definition says, but where memory is refused.
+
+-- what is said is the result, as a value of its own; where memory was refused, nothing is said
+abbrev pub Yields : {A B : Type 0} → (A → B) → Option B → Result A Stop → Type 0
+Yields view said (Ok a) = said ≡ Some (view a)
+Yields view said (Err Fails) = said ≡ None
+Yields view said (Err NoMemory) = Unit {0}
+
+-- a test, of which Ok is that it is passed
+abbrev pub Meets : Bool → Result (Unit {0}) Stop → Type 0
+Meets test (Ok u) = test ≡ true
+Meets test (Err Fails) = test ≡ false
+Meets test (Err NoMemory) = Unit {0}
+
+-- What the structs of the code say.
 abbrev pub form_in : FormIn → Form
 form_in f = form_with f.left.items f.state f.heading f.right.items
 

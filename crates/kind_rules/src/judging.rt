@@ -1,17 +1,13 @@
 // The check of rules with induction.
 ghost use Rattle.std.specs.Prelude.{◌≡◌, ◌+◌, ◌<◌, [], Some, map, nat_le, is_some, IfSome, IfNone};
-ghost use Rattle.machine_text.specs.Packed.{entry_of};
-ghost use Rattle.law_induction.specs.Scripts.{has_step, move_steps, steps_in};
-ghost use Rattle.law_induction.specs.Words.{all_steps_limit};
-ghost use Rattle.law_induction.specs.Rules.{all_steps, base_steps, steps_of_all, steps_of_groups, script_leads, leads_from, leads_by, form_by, forms_of, all_forms, with_a, blank_form, is_proved_by, each_proved, by_induction, may_be_group, is_group_proved, are_proved, is_certificate};
-ghost use Rattle.kind_rules.specs.Answers.{Meets};
-ghost use Rattle.kind_rules.specs.Views.{form_in, rule_in, proved_in, group_in, setting_in, certificate_of};
+ghost use Rattle.machine_text.specs.Terms.{entry_of};
+ghost use Rattle.law_induction.specs.Terms.{has_step, move_steps, steps_in, all_steps_limit, all_steps, base_steps, steps_of_all, steps_of_groups, script_leads, leads_from, leads_by, form_by, forms_of, all_forms, with_a, blank_form, is_proved_by, each_proved, by_induction, may_be_group, is_group_proved, are_proved, is_certificate};
+ghost use Rattle.kind_rules.specs.Views.{Meets, form_in, rule_in, proved_in, group_in, setting_in, certificate_of};
 
 use crate::form::{Form, Rule};
 use crate::limits::MAX_ALL_STEPS;
-use crate::setting::Setting;
-use crate::stop::Stop;
-use crate::unpacked::{ProvedRule, Unpacked};
+use crate::running::{Setting, Stop};
+use crate::texts_given::{ProvedRule, Unpacked};
 use law_induction::{Exponent, Exponents, Move};
 use machine_text::{Dir, Table};
 use std::alloc::Global;

@@ -1,5 +1,5 @@
 // The law of rules with induction as a kind.
-ghost use Rattle.kind_evidence.specs.Kind.{IsKind};
+ghost use Rattle.kind_evidence.specs.Terms.{IsKind};
 ghost use Rattle.kind_rules.specs.Kind.{rules_kind};
 
 /// Rules with induction are a kind: their fields read back, a record has room for them, and where they stand the table

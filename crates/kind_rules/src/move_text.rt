@@ -1,9 +1,9 @@
 // The texts of moves and scripts.
 ghost use Rattle.std.specs.Prelude.{◌≡◌, ◌-◌, [], Some, None, IfOk, is_some, length, option_map};
-ghost use Rattle.text.specs.Parts.{parts_of};
+ghost use Rattle.text.specs.Terms.{parts_of};
 ghost use Rattle.kind_rules.specs.Texts.{if_none, use_from, again_from, together_from, split_from, spell_from, roll_from, power_from, empty_from, blank_from, equation_from, is_capital, change_by, change_from, move_by, move_named, moves_from, script_from};
 
-use crate::number_text::{four_from, next_times, number_from, times_from, word_from};
+use crate::numbers::{four_from, next_times, number_from, times_from, word_from};
 use law_induction::{Equation, Move};
 use machine_text::Dir;
 use std::alloc::{AllocError as NoMemory, Global};

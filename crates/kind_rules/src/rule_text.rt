@@ -1,14 +1,14 @@
 // The texts of rules.
 ghost use Rattle.std.specs.Prelude.{◌≡◌, ◌∷◌, [], IfOk, is_some, option_map};
-ghost use Rattle.text.specs.Parts.{parts_of};
-ghost use Rattle.law_induction.specs.Forms.{RuleForm};
+ghost use Rattle.text.specs.Terms.{parts_of};
+ghost use Rattle.law_induction.specs.Terms.{RuleForm};
 ghost use Rattle.kind_rules.specs.Texts.{end_from, ends_from, rule_form_from, proved_from, rule_of_parts, rule_from};
 ghost use Rattle.kind_rules.specs.Views.{ends_of, rule_in, proved_in};
 
 use crate::form::Rule;
 use crate::form_text::{is_form, read_form};
 use crate::move_text::{is_script, read_script};
-use crate::unpacked::ProvedRule;
+use crate::texts_given::ProvedRule;
 use std::alloc::{AllocError as NoMemory, Global};
 use text::Parts;
 

@@ -1,20 +1,58 @@
 // Scripts, move by move.
 ghost use Rattle.std.specs.Prelude.{◌≡◌, ◌+◌, ◌&&◌, Some, IfOk, IfErr, nat_le, length, map, option_map};
-ghost use Rattle.law_induction.specs.Scripts.{rule_at, grouped_at, again_by, done, done_within, all_done};
-ghost use Rattle.law_induction.specs.Words.{half_block_limit};
-ghost use Rattle.law_induction.specs.Rules.{all_forms};
-ghost use Rattle.kind_rules.specs.Answers.{Yields};
-ghost use Rattle.kind_rules.specs.Views.{form_in, rule_in, group_in, setting_in};
+ghost use Rattle.law_induction.specs.Terms.{rule_at, grouped_at, again_by, done, done_within, all_done, half_block_limit, all_forms};
+ghost use Rattle.kind_rules.specs.Views.{Yields, form_in, rule_in, group_in, setting_in};
 
 use crate::form::{Form, Rule};
 use crate::limits::{MAX_BLOCKS, MAX_STEPS};
-use crate::setting::Setting;
 use crate::sides::{is_at_end, sides};
-use crate::stop::Stop;
-use crate::unpacked::ProvedRule;
+use crate::texts_given::ProvedRule;
 use law_induction::{Equation, Exponent, Exponents, Move};
-use machine_text::Dir;
-use std::alloc::Global;
+use machine_text::{Dir, Table};
+use std::alloc::{AllocError as NoMemory, AllocFailed, Global};
+
+/// Why a check ends early.
+#[derive(Clone, Copy, Drop)]
+pub(crate) enum Stop {
+    /// The certificate doesn't stand.
+    Fails,
+    /// Memory was refused.
+    NoMemory,
+}
+
+impl From<NoMemory> for Stop {
+    ghost use Rattle.std.specs.Prelude.{◌≡◌};
+    ghost use Rattle.kind_rules.specs.declared.running.Stop.TheVariants.{NoMemory};
+
+    ghost from_gives = { λ _ e. e ≡ NoMemory };
+
+    fn from(_: NoMemory) -> Stop {
+        Stop::NoMemory
+    }
+}
+
+impl<T: Drop> From<AllocFailed<T>> for Stop {
+    ghost use Rattle.std.specs.Prelude.{◌≡◌};
+    ghost use Rattle.kind_rules.specs.declared.running.Stop.TheVariants.{NoMemory};
+
+    ghost from_gives = { λ _ e. e ≡ NoMemory };
+
+    fn from(_: AllocFailed<T>) -> Stop {
+        Stop::NoMemory
+    }
+}
+
+/// What a script may use: a table, the earlier groups of rules, the rules of the group that is being proved by induction,
+/// the one of them that is being proved, and which ends are open.
+#[derive(Clone, Copy)]
+pub(crate) struct Setting<'t, 'r, 'a> {
+    pub table: &'t Table,
+    pub groups: &'r [Vec<ProvedRule>],
+    pub group: &'a [ProvedRule],
+    pub again: Option<&'a Rule>,
+    pub open_left: bool,
+    pub open_right: bool,
+}
 
 // A rule by its number; where they are fewer, its number behind them.
 fn earlier<'r>(groups: &'r [Vec<ProvedRule>], k: u32) -> Result<&'r Rule, usize>
@@ -63,7 +101,7 @@ fn again_by(b: Exponent, c: Exponent, d: Exponent) -> Exponents
 }
 
 impl Form {
-    ghost use Rattle.law_induction.specs.declared.moves.Move.TheVariants.{Steps, Use, Again, Together, Forth, Back};
+    ghost use Rattle.law_induction.specs.declared.scripts.Move.TheVariants.{Steps, Use, Again, Together, Forth, Back};
 
     // Steps, where there are no more than may be.
     #[tactic(auto, unfolding(law_induction::specs::Scripts::done, law_induction::specs::Words::step_limit))]

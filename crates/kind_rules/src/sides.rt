@@ -1,17 +1,14 @@
 // The two sides of an equation.
 ghost use Rattle.std.specs.Prelude.{◌≡◌, ◌↔◌, ◌++◌, [], Some, map, IfOk, IsTrue};
-ghost use Rattle.machine_text.specs.declared.transition.Sym.TheVariants.{One};
-ghost use Rattle.law_machines.specs.Words.{repeat};
-ghost use Rattle.law_induction.specs.declared.equation.Equation.TheVariants.{Split, Spell, Roll, Power, Empty, Blank};
-ghost use Rattle.law_induction.specs.Words.{one_time, never_once, single, word_symbols};
-ghost use Rattle.law_induction.specs.Equations.{sides, sides_of, is_at_end, are_blanks};
-ghost use Rattle.kind_rules.specs.Answers.{Yields};
-ghost use Rattle.kind_rules.specs.Views.{sides_in};
+ghost use Rattle.machine_text.specs.declared.table.Sym.TheVariants.{One};
+ghost use Rattle.law_machines.specs.Terms.{repeat};
+ghost use Rattle.law_induction.specs.declared.scripts.Equation.TheVariants.{Split, Spell, Roll, Power, Empty, Blank};
+ghost use Rattle.law_induction.specs.Terms.{one_time, never_once, single, word_symbols, sides, sides_of, is_at_end, are_blanks};
+ghost use Rattle.kind_rules.specs.Views.{Yields, sides_in};
 
 use crate::limits::MAX_COPIES;
-use crate::numbers::{product_of, sum_of};
-use crate::stop::Stop;
-use crate::words::{are_same, spell};
+use crate::numbers::{are_same, product_of, spell, sum_of};
+use crate::running::Stop;
 use law_induction::{Block, Equation, Exponent};
 use machine_text::Sym;
 use std::alloc::{AllocError as NoMemory, Global};
@@ -75,7 +72,7 @@ fn both(alloc: Global, before: &[Block], after: &[Block]) -> Result<BothSides, S
 }
 
 // A word so many times, and more.
-#[tactic(auto, unfolding(law_induction::specs::Equations::sides))]
+#[tactic(auto, unfolding(law_induction::specs::Scripts::sides))]
 fn split(alloc: Global, word: u64, first: Exponent, second: Exponent) -> Result<BothSides, Stop>
     ensures { Yields sides_in (sides (Split word first second)) result }
 {
@@ -135,7 +132,7 @@ fn spelled_often(alloc: Global, word: u64, copies: u32) -> Result<Vec<Sym>, NoMe
 }
 
 // A word as its symbols.
-#[tactic(auto, unfolding(law_induction::specs::Equations::sides))]
+#[tactic(auto, unfolding(law_induction::specs::Scripts::sides))]
 fn as_symbols(alloc: Global, word: u64) -> Result<BothSides, Stop>
     ensures { Yields sides_in (sides (Spell word)) result }
 {
@@ -152,7 +149,7 @@ fn as_symbols(alloc: Global, word: u64) -> Result<BothSides, Stop>
 }
 
 // A word that others are rolled over.
-#[tactic(auto, unfolding(law_induction::specs::Equations::sides))]
+#[tactic(auto, unfolding(law_induction::specs::Scripts::sides))]
 fn rolled(
     alloc: Global,
     over: u64,
@@ -185,7 +182,7 @@ fn rolled(
 }
 
 // A word that is another so many times.
-#[tactic(auto, unfolding(law_induction::specs::Equations::sides))]
+#[tactic(auto, unfolding(law_induction::specs::Scripts::sides))]
 fn powered(
     alloc: Global,
     long: u64,
@@ -214,7 +211,7 @@ fn powered(
 }
 
 // A word not once.
-#[tactic(auto, unfolding(law_induction::specs::Equations::sides))]
+#[tactic(auto, unfolding(law_induction::specs::Scripts::sides))]
 fn emptied(alloc: Global, word: u64) -> Result<BothSides, Stop>
     ensures { Yields sides_in (sides (Empty word)) result }
 {
@@ -229,7 +226,7 @@ fn emptied(alloc: Global, word: u64) -> Result<BothSides, Stop>
 }
 
 // Whether all symbols are blank.
-#[tactic(auto, unfolding(law_induction::specs::Equations::are_blanks))]
+#[tactic(auto, unfolding(law_induction::specs::Scripts::are_blanks))]
 fn are_blanks(row: &[Sym]) -> bool
     ensures { result ≡ are_blanks row.now }
 {
@@ -249,7 +246,7 @@ fn is_one(s: Sym) -> bool
 }
 
 // Blanks.
-#[tactic(auto, unfolding(law_induction::specs::Equations::sides))]
+#[tactic(auto, unfolding(law_induction::specs::Scripts::sides))]
 fn blank(alloc: Global, word: u64, times: Exponent) -> Result<BothSides, Stop>
     ensures { Yields sides_in (sides (Blank word times)) result }
 {

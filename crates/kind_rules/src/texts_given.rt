@@ -1,13 +1,14 @@
-// The texts of rules with induction, as they are given.
+// The texts of rules with induction, as they are given, and unpacked.
 ghost use Rattle.std.specs.Prelude.{◌≡◌};
 ghost use Rattle.kind_rules.specs.RuleTexts.{are_high};
 
-use crate::form_text::{is_form, read_form};
-use crate::group_text::{are_groups, read_groups};
+use crate::form::{Form, Rule};
+use crate::form_text::{are_groups, is_form, read_form, read_groups};
 use crate::limits::MAX_RULE_BYTES;
 use crate::move_text::{is_script, read_script};
-use crate::number_text::four_from;
-use crate::unpacked::Unpacked;
+use crate::numbers::four_from;
+use crate::running::Stop;
+use law_induction::{Exponents, Move};
 use std::alloc::{AllocError as NoMemory, Global};
 use text::Parts;
 
@@ -39,9 +40,8 @@ fn are_high(text: &[u8]) -> bool
 impl TextsGiven<'_> {
     ghost use Rattle.std.specs.Prelude.{◌≡◌, ◌≤◌, ◌↔◌, IfOk, IsTrue, is_some, nat_le, option_map};
     ghost use Rattle.kind_rules.specs.Limits.{rules_byte_limit};
-    ghost use Rattle.kind_rules.specs.RuleTexts.{all_high, rule_bytes, certificate_in, given_by};
+    ghost use Rattle.kind_rules.specs.RuleTexts.{all_high, rule_bytes, certificate_in, given_by, rule_texts_given};
     ghost use Rattle.kind_rules.specs.Views.{certificate_of};
-    ghost use Rattle.kind_rules.specs.TextsGiven.{rule_texts_given};
 
     // How many of the bytes that the texts may have together are left; none where they are longer.
     fn room_left(&self) -> Option<usize>
@@ -151,5 +151,42 @@ impl TextsGiven<'_> {
             return Ok(None);
         }
         self.unpacked(alloc)
+    }
+}
+
+/// A rule with its proof: a script; or by induction on the variable a a script for 0, and one for a + 1.
+#[derive(Drop)]
+pub struct ProvedRule {
+    pub rule: Rule,
+    pub base: Option<Vec<Move>>,
+    pub script: Vec<Move>,
+}
+
+/// The rules, in groups of those that are proved together; the form that the run comes to again and again; its numbers at
+/// first, and how the run comes there; what stands in place of its variables when it comes there next, and how it does.
+#[derive(Drop)]
+pub struct Unpacked {
+    pub groups: Vec<Vec<ProvedRule>>,
+    pub family: Form,
+    pub first: Exponents,
+    pub begin: Vec<Move>,
+    pub next: Exponents,
+    pub again: Vec<Move>,
+}
+
+impl Unpacked {
+    ghost use Rattle.std.specs.Prelude.{◌≡◌, IfOk, option_map};
+    ghost use Rattle.law_induction.specs.Terms.{form_by};
+    ghost use Rattle.kind_rules.specs.Views.{form_in};
+
+    /// The form to which the run comes next, where no number of it is too large.
+    pub fn next_form(&self, alloc: Global) -> Result<Option<Form>, NoMemory>
+        ensures { IfOk result (λ f. option_map form_in f ≡ form_by self.now.next (form_in self.now.family)) }
+    {
+        match self.family.by(alloc, &self.next) {
+            Ok(form) => Ok(Some(form)),
+            Err(Stop::Fails) => Ok(None),
+            Err(Stop::NoMemory) => Err(NoMemory),
+        }
     }
 }

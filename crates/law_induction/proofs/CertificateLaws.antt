@@ -4,21 +4,17 @@ use Rattle.std.specs.Prelude.{nat_le, is_some}
 use Rattle.std.proofs.lemmas.Bool.{and_parts, false≢true}
 use Rattle.std.proofs.lemmas.Bool.Decides.{Decides-eqb}
 use Rattle.std.proofs.lemmas.Option.{same_Some, none-some}
-use Rattle.machine_text.specs.declared.transition.Sym.{Sym}
-use Rattle.law_turing.specs.Machine.{Machine}
-use Rattle.law_turing.specs.Halting.{Never}
-use Rattle.law_machines.specs.Rules.{Comes, Goes}
+use Rattle.machine_text.specs.declared.table.Sym.{Sym}
+use Rattle.law_turing.specs.Terms.{Machine, Never}
+use Rattle.law_machines.specs.Terms.{Comes, Goes}
 use Rattle.law_machines.proofs.RuleLaws.{same, ◌⨾◌, ◌⁺⨾◌, never_by_rules}
-use Rattle.law_induction.specs.declared.block.Exponents.{Exponents}
-use Rattle.law_induction.specs.declared.moves.Move.{Move}
-use Rattle.law_induction.specs.Words.{Values, all_steps_limit, times_with, never_once, cells}
-use Rattle.law_induction.specs.Forms.{Form, zipper_of, IsBeyond, RuleForm, HoldsAt, RuleHolds}
-use Rattle.law_induction.specs.Equations.{instance_of}
-use Rattle.law_induction.specs.Scripts.{Setting, rule_at, all_done, has_step}
+use Rattle.law_induction.specs.declared.scripts.Exponents.{Exponents}
+use Rattle.law_induction.specs.declared.scripts.Move.{Move}
+use Rattle.law_induction.specs.Words.{Values, all_steps_limit, times_with, never_once, cells, Form, zipper_of, IsBeyond, RuleForm, HoldsAt, RuleHolds}
+use Rattle.law_induction.specs.Scripts.{instance_of, Setting, rule_at, all_done, has_step}
 use Rattle.law_induction.specs.Rules.{Proved, Certificate, form_by, form_eq, arrives, script_leads, leads_from, leads_by, with_a, setting, is_proved_by, each_proved, by_induction, is_group_proved, are_proved, forms_of, all_forms, all_steps, blank_form, is_certificate}
-use Rattle.law_induction.proofs.ValueLaws.{bound, values_by, same_blocks}
-use Rattle.law_induction.proofs.UseLaws.{cells_instance, same_heading, zipper_same}
-use Rattle.law_induction.proofs.ScriptLaws.{IsSound, script_comes, script_goes}
+use Rattle.law_induction.proofs.BlockLaws.{bound, values_by, same_blocks}
+use Rattle.law_induction.proofs.ScriptLaws.{cells_instance, same_heading, zipper_same, IsSound, script_comes, script_goes}
 
 -- a form with others in place of its variables
 pub zipper_by : (by : Exponents) (f g : Form) (v : Values) (l r : List Sym) → form_by by f ≡ Some g → zipper_of g v l r ≡ zipper_of f (values_by by v) l r

@@ -1,14 +1,12 @@
 -- Rules with induction, alone or together, and when they keep a machine from halting.
 use Rattle.std.specs.Prelude.{ℕ, ◌+◌, nat_le, ◌==◌, ◌&&◌, Bool, true, false, is_some, List, [], ◌∷◌, ◌++◌, Option, Some, None}
-use Rattle.machine_text.specs.declared.transition.Dir.TheVariants.{R}
-use Rattle.law_turing.specs.Machine.{Machine}
-use Rattle.law_induction.specs.declared.block.Exponent.{Exponent}
-use Rattle.law_induction.specs.declared.block.Exponents.{Exponents}
-use Rattle.law_induction.specs.declared.moves.Move.{Move}
-use Rattle.law_induction.specs.Words.{all_steps_limit, times_with, never_once, blocks_eq}
-use Rattle.law_induction.specs.Forms.{Form, form_with, RuleForm}
-use Rattle.law_induction.specs.Equations.{◌>>=◌, instance_of}
-use Rattle.law_induction.specs.Scripts.{Setting, same_side, all_done, has_step, steps_in}
+use Rattle.machine_text.specs.declared.table.Dir.TheVariants.{R}
+use Rattle.law_turing.specs.Terms.{Machine}
+use Rattle.law_induction.specs.declared.scripts.Exponent.{Exponent}
+use Rattle.law_induction.specs.declared.scripts.Exponents.{Exponents}
+use Rattle.law_induction.specs.declared.scripts.Move.{Move}
+use Rattle.law_induction.specs.Words.{all_steps_limit, times_with, never_once, blocks_eq, Form, form_with, RuleForm}
+use Rattle.law_induction.specs.Scripts.{◌>>=◌, instance_of, Setting, same_side, all_done, has_step, steps_in}
 
 -- a rule with its proof: one script; or by induction on the variable a a script for 0, and one for a + 1
 pub record Proved : Type 0 where

@@ -1,31 +1,127 @@
--- A machine for which counted automata stand never halts: each step leads from a held configuration to one.
-use Rattle.std.proofs.Common.{◌≡◌, ℕ, ◌+◌, ℤ, pos, ◌≤ℤ◌, List, [], ◌∷◌, Option, Some, None, sym, ◌∙◌, ap, subst, refl, arith}
+-- A machine for which counted automata stand never halts, as each step leads to what they hold.
+use Rattle.std.proofs.Common.{◌≡◌, ℕ, zero, suc, ℤ, List, ◌∷◌, Option, Some, None, sym, ◌∙◌, ap, refl, arith, ◌+◌, pos, ◌≤ℤ◌, [], subst}
 use Rattle.std.proofs.lemmas.Int.{ints}
+use Rattle.std.proofs.lemmas.Option.{same_Some, none-some}
 use Rattle.std.proofs.lemmas.Bool.Decides.{nat_tests}
-use Rattle.std.proofs.lemmas.Option.{same_Some}
-use Rattle.machine_text.specs.declared.transition.Sym.{Sym}
-use Rattle.machine_text.specs.declared.transition.Sym.TheVariants.{Zero}
-use Rattle.machine_text.specs.declared.transition.Dir.{Dir}
-use Rattle.machine_text.specs.declared.transition.Dir.TheVariants.{L, R}
-use Rattle.machine_text.specs.declared.transition.Entry.{Entry}
-use Rattle.law_turing.specs.Machine.{Machine}
-use Rattle.law_turing.specs.Tape.{symbol_read, moved_head}
-use Rattle.law_turing.specs.Run.{Config, start, cell, carried_out, next, from}
-use Rattle.law_turing.specs.Step.{Takes}
-use Rattle.law_turing.specs.Halting.{Never}
-use Rattle.law_turing.specs.Mirror.{opposite}
-use Rattle.law_turing.specs.Translated.{Beyond}
-use Rattle.law_turing.specs.Automata.{symbols_ahead}
-use Rattle.law_turing.proofs.Steps.{taken_takes, next_taken}
-use Rattle.law_turing.proofs.OneState.{start_blank}
-use Rattle.law_turing.proofs.Invariants.{invariant_law, never_by_invariant}
-use Rattle.law_machines.specs.Cosets.{Point, Coset, IsMember}
-use Rattle.law_machines.specs.declared.count.Count.{Count}
-use Rattle.law_machines.specs.declared.transition.Transition.{Transition}
-use Rattle.law_machines.specs.declared.local.Local.{Local}
-use Rattle.law_machines.specs.Counted.{Delta, once, Reading, begun, further, reading, IsHalfRead, CountedSystem, HasCoset, delta, IsOf, Remains, Settled, None_remains, Negative, Members, LeadsOn, CountedStand, IsHeldBy}
-use Rattle.law_machines.proofs.Readings.{reading_less, read_same, read_more, read_less, read_blank}
+use Rattle.machine_text.specs.declared.table.Sym.{Sym}
+use Rattle.machine_text.specs.declared.table.Sym.TheVariants.{Zero}
+use Rattle.machine_text.specs.declared.table.Dir.{Dir}
+use Rattle.machine_text.specs.declared.table.Dir.TheVariants.{L, R}
+use Rattle.law_turing.specs.Terms.{moved_head, Config, start, cell, opposite, Machine, symbol_read, carried_out, next, from, Takes, Beyond, behind, symbols_ahead, Never}
+use Rattle.law_turing.proofs.Cycles.{start_blank}
+use Rattle.law_machines.specs.declared.counted.Transition.{Transition}
+use Rattle.law_machines.specs.Counted.{Delta, Reading, begun, further, further_by, read_on, reading, IsHalfRead, Point, Coset, IsMember, once, CountedSystem, HasCoset, delta, IsOf, Remains, Settled, None_remains, Negative, Members, LeadsOn, CountedStand, IsHeldBy}
+use Rattle.machine_text.specs.declared.table.Entry.{Entry}
+use Rattle.law_turing.proofs.RunLaws.{taken_takes, next_taken, invariant_law, never_by_invariant}
+use Rattle.law_machines.specs.declared.counted.Count.{Count}
+use Rattle.law_machines.specs.declared.counted.Local.{Local}
 
+-- Readings, a symbol at a time, and of the half tapes of a configuration.
+
+-- the transition by a blank cell far away
+abbrev pub unmoved : Transition
+unmoved = record { to = 0; count = None }
+
+-- one symbol more
+pub reading_more : (a : Delta) (w : List Sym) (s : Sym) (r : Reading) (t : Transition) →
+    reading a w ≡ Some r → a r.state s ≡ Some t → reading a (s ∷ w) ≡ Some (further r t)
+unfolding reading
+reading_more a w s r t is has = ap (read_on a s) is ∙ ap (further_by r) has
+
+-- one symbol less
+pub reading_less : (a : Delta) (w : List Sym) (s : Sym) (r : Reading) → reading a (s ∷ w) ≡ Some r →
+    (p : Reading) × (t : Transition) × (reading a w ≡ Some p) × (a p.state s ≡ Some t) × (further p t ≡ r)
+unfolding reading
+reading_less a w s r is = go (reading a w) refl
+  where
+    go : (o : Option Reading) → reading a w ≡ o →
+        (p : Reading) × (t : Transition) × (reading a w ≡ Some p) × (a p.state s ≡ Some t) × (further p t ≡ r)
+    go None none = absurd (none-some r (sym (ap (read_on a s) none) ∙ is))
+    go (Some p) some = on (a p.state s) refl
+      where
+        on : (o : Option Transition) → a p.state s ≡ o →
+            (p : Reading) × (t : Transition) × (reading a w ≡ Some p) × (a p.state s ≡ Some t) × (further p t ≡ r)
+        on None none = absurd (none-some r (sym (ap (read_on a s) some ∙ ap (further_by p) none) ∙ is))
+        on (Some t) has = (p, t, some, has, same_Some (further p t) r (sym (ap (read_on a s) some ∙ ap (further_by p) has) ∙ is))
+
+beyond_here : (side : Dir) (x : ℤ) → Beyond side x x
+beyond_here L x = omega (arith, ints)
+beyond_here R x = omega (arith, ints)
+
+beyond_more : (side : Dir) (x y : ℤ) → Beyond side (moved_head x side) y → Beyond side x y
+beyond_more L x y beyond = omega (arith, ints)
+beyond_more R x y beyond = omega (arith, ints)
+
+beyond_far : (side : Dir) (x y : ℤ) (far : ℕ) → Beyond side (behind (opposite side) x far) y → Beyond side x y
+beyond_far L x y far beyond = omega (arith, ints)
+beyond_far R x y far beyond = omega (arith, ints)
+
+beyond_next : (side : Dir) (x y : ℤ) (far : ℕ) → Beyond side (behind (opposite side) x (suc far)) y → Beyond side (behind (opposite side) (moved_head x side) far) y
+beyond_next L x y far beyond = omega (arith, ints)
+beyond_next R x y far beyond = omega (arith, ints)
+
+beyond_back : (side : Dir) (x y : ℤ) (far : ℕ) → Beyond side (behind (opposite side) (moved_head x side) far) y → Beyond side (behind (opposite side) x (suc far)) y
+beyond_back L x y far beyond = omega (arith, ints)
+beyond_back R x y far beyond = omega (arith, ints)
+
+beyond_none : (side : Dir) (x : ℤ) → Beyond side (behind (opposite side) x 0) x
+beyond_none L x = omega (arith, ints)
+beyond_none R x = omega (arith, ints)
+
+beyond_one : (side : Dir) (x y : ℤ) → Beyond side (behind (opposite side) (moved_head x side) 0) y → Beyond side (behind (opposite side) x 0) y
+beyond_one L x y beyond = omega (arith, ints)
+beyond_one R x y beyond = omega (arith, ints)
+
+-- the cells from a place on are all that is read
+ahead_same : (side : Dir) (c d : Config) (x : ℤ) (far : ℕ) → ((y : ℤ) → Beyond side x y → cell c y ≡ cell d y) →
+    symbols_ahead side c x far ≡ symbols_ahead side d x far
+ahead_same side c d x zero same = refl
+ahead_same side c d x (suc far) same =
+    ap (λ s. s ∷ symbols_ahead side c (moved_head x side) far) (same x (beyond_here side x)) ∙
+    ap (λ w. cell d x ∷ w) (ahead_same side c d (moved_head x side) far (λ y beyond. same y (beyond_more side x y beyond)))
+
+pub read_same : (a : Delta) (side : Dir) (c d : Config) (x : ℤ) (r : Reading) → ((y : ℤ) → Beyond side x y → cell c y ≡ cell d y) →
+    IsHalfRead a side c x r → IsHalfRead a side d x r
+read_same a side c d x r same read = record {
+  far = read.far;
+  blank = λ y beyond. sym (same y (beyond_far side x y read.far beyond)) ∙ read.blank y beyond;
+  is = ap (reading a) (sym (ahead_same side c d x read.far same)) ∙ read.is;
+}
+
+-- one cell more
+pub read_more : (a : Delta) (side : Dir) (c : Config) (x : ℤ) (r : Reading) (t : Transition) →
+    IsHalfRead a side c (moved_head x side) r → a r.state (cell c x) ≡ Some t → IsHalfRead a side c x (further r t)
+read_more a side c x r t read has = record {
+  far = suc read.far;
+  blank = λ y beyond. read.blank y (beyond_next side x y read.far beyond);
+  is = reading_more a (symbols_ahead side c (moved_head x side) read.far) (cell c x) r t read.is has;
+}
+
+-- one cell less
+pub read_less : (a : Delta) (side : Dir) (c : Config) (x : ℤ) (r : Reading) → a 0 Zero ≡ Some unmoved → IsHalfRead a side c x r →
+    (p : Reading) × (t : Transition) × IsHalfRead a side c (moved_head x side) p × (a p.state (cell c x) ≡ Some t) × (further p t ≡ r)
+unfolding reading
+read_less a side c x r blank read = go read.far read.blank read.is
+  where
+    go : (far : ℕ) → ((y : ℤ) → Beyond side (behind (opposite side) x far) y → cell c y ≡ Zero) → reading a (symbols_ahead side c x far) ≡ Some r →
+        (p : Reading) × (t : Transition) × IsHalfRead a side c (moved_head x side) p × (a p.state (cell c x) ≡ Some t) × (further p t ≡ r)
+    go zero zeros is = (
+      begun,
+      unmoved,
+      record { far = 0; blank = λ y beyond. zeros y (beyond_one side x y beyond); is = refl },
+      ap (a 0) (zeros x (beyond_none side x)) ∙ blank,
+      same_Some begun r is,
+    )
+    go (suc far) zeros is =
+        let (p, t, before, has, same) = reading_less a (symbols_ahead side c (moved_head x side) far) (cell c x) r is in
+        (p, t, record { far = far; blank = λ y beyond. zeros y (beyond_back side x y far beyond); is = before }, has, same)
+
+-- the blank tape
+pub read_blank : (a : Delta) (side : Dir) (x : ℤ) → IsHalfRead a side start x begun
+unfolding reading
+read_blank a side x = record { far = 0; blank = λ y beyond. start_blank y; is = refl }
+
+-- A machine for which counted automata stand never halts: each step leads from a held configuration to one.
 once_other : (o : Option Count) (x : ℕ) → ((y : Count) → o ≡ Some y → y.number ≡ x → ⊥) → once o x ≡ 0
 once_other None x other = refl
 once_other (Some y) x other = let never : y.number ≡ x → ⊥ = other y refl in grind (arith, nat_tests)

@@ -1,13 +1,7 @@
-pub mod Readings
 pub mod CountedLaws
-pub mod Zippers
 pub mod RuleLaws
-pub mod Words
-pub mod Blanks
-pub mod ByText
-pub mod Cells
-pub mod Digits
-pub mod ShiftLists
+pub mod Proved
+pub mod DigitLists
 pub mod ShiftCounters
 pub mod ShiftTapes
 pub mod Skelet33To35
@@ -20,4 +14,3 @@ pub mod Skelet26
 pub mod Skelet33
 pub mod Skelet34
 pub mod Skelet35
-pub mod Proved

@@ -1,14 +1,13 @@
--- The machines by their texts, and that none of them halts.
-use Rattle.std.proofs.Common.{◌≡◌, ◌↔◌, ℕ, zero, suc, ◌+◌, ◌<◌, Bool, true, false, List, [], ◌∷◌, length, slice_index_or, Option, Some, None, Ok, sym, ◌∙◌, ap, subst, refl, arith}
-use Rattle.std.proofs.Math.ListN.{drop}
-use Rattle.std.specs.Prelude.{if◌then◌else◌, bytes_eq, IsTrue, IfSome, ◌≤◌, is_some}
-use Rattle.std.proofs.lemmas.Option.{same_Some, none-some}
+-- The proved machines are known by their texts, and none of them halts.
+use Rattle.std.proofs.Common.{◌≡◌, ℕ, true, List, Result, Ok, sym, ◌∙◌, ap, ◌↔◌, zero, suc, ◌+◌, ◌<◌, Bool, false, [], ◌∷◌, length, slice_index_or, Option, Some, None, subst, refl, arith}
+use Rattle.std.specs.Prelude.{bytes_eq, if◌then◌else◌, IsTrue, IfSome, ◌≤◌, is_some}
 use Rattle.std.proofs.lemmas.Slice.Eq.{bytes_eq-Decides}
-use Rattle.machine_text.specs.Packed.{Packed, IsTable, entry_of, tabulated}
-use Rattle.machine_text.specs.Text.{text_of, table_of, faults_of, fault_at, entry_named}
+use Rattle.std.proofs.Math.ListN.{drop}
+use Rattle.std.proofs.lemmas.Option.{same_Some, none-some}
+use Rattle.machine_text.specs.Terms.{Packed, IsTable, entry_of, tabulated, table_of, text_of, faults_of, fault_at, entry_named}
+use Rattle.machine_text.specs.declared.grammar.TextFault.{TextFault}
 use Rattle.machine_text.proofs.RoundTrip.{table_of-text_of}
-use Rattle.law_turing.specs.Halting.{Never}
-use Rattle.law_machines.proofs.ByText.{by_text}
+use Rattle.law_turing.specs.Terms.{Never}
 use Rattle.law_machines.specs.declared.machines.ProvedMachine.{ProvedMachine}
 use Rattle.law_machines.specs.declared.machines.ProvedMachine.TheVariants.{Skelet10, Skelet15, Skelet17, Skelet26, Skelet33, Skelet34, Skelet35}
 use Rattle.law_machines.specs.Tables.{table_text}
@@ -20,6 +19,18 @@ use Rattle.law_machines.proofs.Skelet26.{skelet26, skelet26_never}
 use Rattle.law_machines.proofs.Skelet33.{skelet33, skelet33_never}
 use Rattle.law_machines.proofs.Skelet34.{skelet34, skelet34_never}
 use Rattle.law_machines.proofs.Skelet35.{skelet35, skelet35_never}
+
+-- Texts with the same bytes name one table.
+same_Ok : (a b : Packed) → ◌≡◌ {A = Result Packed TextFault} (Ok a) (Ok b) → a ≡ b
+same_Ok a b e = cc
+
+pub by_text : (known : List ℕ) (t : Packed) → table_of known ≡ Ok t →
+    (text : List ℕ) (p : Packed) → table_of text ≡ Ok p → bytes_eq text known ≡ true → p ≡ t
+by_text known t names text p reads alike =
+    let is : text ≡ known = (bytes_eq-Decides text known).0 alike in
+    same_Ok p t (sym reads ∙ ap table_of is ∙ names)
+
+-- The machines by their texts, and that none of them halts.
 
 -- each text names the table that its file speaks of
 pub machines_never : (m : ProvedMachine) → (p : Packed) × (table_of (table_text m) ≡ Ok p) × Never (entry_of p)

@@ -37,19 +37,12 @@
 --   most, of which the first one is no older digit: n <= w - 2. Overflow leaves 2^w - 1 - R + L = 2^w - 1 for the new
 --   w, R, L and j = 1, or 2^(w - 1) for j = 2: enough for both.
 use Rattle.std.proofs.Common.{◌≡◌, ℕ, zero, suc, ◌+◌, ◌*◌, ◌<◌, ◌≤◌, List, [], ◌∷◌, ◌++◌, inl, inr, sym, ◌∙◌, ap, subst, refl, arith}
-use Rattle.machine_text.specs.declared.transition.Sym.{Sym}
-use Rattle.machine_text.specs.declared.transition.Sym.TheVariants.{Zero, One}
-use Rattle.law_turing.specs.Machine.{Machine}
-use Rattle.law_turing.specs.Halting.{Never}
-use Rattle.law_machines.specs.Zipper.{Zipper, AtLeft, blank_zipper}
-use Rattle.law_machines.specs.Rules.{Comes, Goes}
-use Rattle.law_machines.specs.Words.{repeat, SameCells}
-use Rattle.law_machines.proofs.RuleLaws.{same, ◌⨾◌, ◌⨾⁺◌, ◌⁺⨾◌, never_by_rules}
-use Rattle.law_machines.proofs.Words.{repeat_last}
-use Rattle.law_machines.proofs.Blanks.{same_word, same_repeat, same_left}
-use Rattle.law_machines.proofs.Cells.{o, i, oo, ii, io, oooo, iooo}
-use Rattle.law_machines.proofs.Digits.{val, scaled, full, full_pos, val_below, scaled_two, scaled_val, scaled_room, scaled_top, val_append, full_append, full_gap, val_ones, val_inc, full_inc, scaled_inc, val_grow, full_grow, scaled_grow, scaled_twice, look}
-use Rattle.law_machines.proofs.ShiftLists.{Shift, Near, Far, pairs, behind, digits, older, beyond, pairs_append, pairs_repeat, digits_repeat, digits_ones, older_repeat, same_behind, first_zero}
+use Rattle.machine_text.specs.declared.table.Sym.{Sym}
+use Rattle.machine_text.specs.declared.table.Sym.TheVariants.{Zero, One}
+use Rattle.law_turing.specs.Terms.{Machine, Never}
+use Rattle.law_machines.specs.Zipper.{Zipper, AtLeft, blank_zipper, Comes, Goes, repeat, SameCells}
+use Rattle.law_machines.proofs.RuleLaws.{same, ◌⨾◌, ◌⨾⁺◌, ◌⁺⨾◌, never_by_rules, repeat_last, same_word, same_repeat, same_left}
+use Rattle.law_machines.proofs.DigitLists.{o, i, oo, ii, io, oooo, iooo, val, scaled, full, full_pos, val_below, scaled_two, scaled_val, scaled_room, scaled_top, val_append, full_append, full_gap, val_ones, val_inc, full_inc, scaled_inc, val_grow, full_grow, scaled_grow, scaled_twice, look, Shift, Near, Far, pairs, behind, digits, older, beyond, pairs_append, pairs_repeat, digits_repeat, digits_ones, older_repeat, same_behind, first_zero}
 
 -- A machine with its state q at the turns, a word p between the head and the right counter, and the digits by_near k
 -- and by_far k that the right counter is lengthened by; its five rules on the tape, and that those digits are worth two

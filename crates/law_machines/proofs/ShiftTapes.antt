@@ -12,18 +12,12 @@
 --     first_near  x B> 0101 rest w           -> x <A 0 p 11 (10)^w 11 $
 --     first_far   x B> 01 rest (w + 1)       -> x <A 0 p 11 (10)^w 11 $
 use Rattle.std.proofs.Common.{◌≡◌, ℕ, zero, suc, ◌+◌, ◌*◌, ◌≤◌, List, [], ◌∷◌, ◌++◌, sym, ap, refl, arith}
-use Rattle.machine_text.specs.declared.transition.Sym.{Sym}
-use Rattle.machine_text.specs.declared.transition.Sym.TheVariants.{Zero, One}
-use Rattle.law_turing.specs.Machine.{Machine}
-use Rattle.law_turing.specs.Halting.{Never}
-use Rattle.law_machines.specs.Zipper.{AtLeft, AtRight, blank_zipper}
-use Rattle.law_machines.specs.Rules.{Comes, Goes}
-use Rattle.law_machines.specs.Words.{repeat}
-use Rattle.law_machines.proofs.RuleLaws.{same, ◌⨾◌, ◌⨾⁺◌, ◌⁺⨾◌}
-use Rattle.law_machines.proofs.Blanks.{same_blank, same_word, same_left}
-use Rattle.law_machines.proofs.Cells.{o, i, oo, ii, io, oooo, iooo, iiii}
-use Rattle.law_machines.proofs.Digits.{twice, val, full, full_pos, val_grow}
-use Rattle.law_machines.proofs.ShiftLists.{pairs, pairs_repeat, same_zero}
+use Rattle.machine_text.specs.declared.table.Sym.{Sym}
+use Rattle.machine_text.specs.declared.table.Sym.TheVariants.{Zero, One}
+use Rattle.law_turing.specs.Terms.{Machine, Never}
+use Rattle.law_machines.specs.Zipper.{AtLeft, AtRight, blank_zipper, Comes, Goes, repeat}
+use Rattle.law_machines.proofs.RuleLaws.{same, ◌⨾◌, ◌⨾⁺◌, ◌⁺⨾◌, same_blank, same_word, same_left}
+use Rattle.law_machines.proofs.DigitLists.{o, i, oo, ii, io, oooo, iooo, iiii, twice, val, full, full_pos, val_grow, pairs, pairs_repeat, same_zero}
 use Rattle.law_machines.proofs.ShiftCounters.{shifts_never}
 
 -- n fours are 2 n pairs

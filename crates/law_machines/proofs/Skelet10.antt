@@ -36,18 +36,13 @@
 -- After u rounds a pass of size u + 1, over one more word 10, does the rest. So from at k a pass of size k and a way
 -- back from the blank end lead to at (k + 1), and there is no other case. The run begins with 15 steps to at 1.
 use Rattle.std.proofs.Common.{◌≡◌, ℕ, zero, suc, ◌+◌, ◌≤◌, List, [], ◌∷◌, ◌++◌, ◌∙◌, ap, refl, arith}
-use Rattle.machine_text.specs.declared.transition.Sym.{Sym}
-use Rattle.machine_text.specs.declared.transition.Sym.TheVariants.{Zero, One}
-use Rattle.machine_text.specs.Packed.{Packed, entry_of}
-use Rattle.law_turing.specs.Machine.{Machine}
-use Rattle.law_turing.specs.Halting.{Never}
-use Rattle.law_machines.specs.Zipper.{Zipper, AtLeft, AtRight, blank_zipper, steps}
-use Rattle.law_machines.specs.Rules.{Comes, Goes}
-use Rattle.law_machines.specs.Words.{repeat}
-use Rattle.law_machines.proofs.RuleLaws.{run, run⁺, same, ◌⨾◌, ◌⨾⁺◌, ◌⁺⨾◌, never_by_rules}
-use Rattle.law_machines.proofs.Words.{repeat_last, repeat_swap, repeat_turned, sweep_right, sweep_left}
-use Rattle.law_machines.proofs.Blanks.{same_blank, same_word, same_repeat, same_right}
-use Rattle.law_machines.proofs.Cells.{o, i, oo, ii, io, oi}
+use Rattle.machine_text.specs.declared.table.Sym.{Sym}
+use Rattle.machine_text.specs.declared.table.Sym.TheVariants.{Zero, One}
+use Rattle.machine_text.specs.Terms.{Packed, entry_of}
+use Rattle.law_turing.specs.Terms.{Machine, Never}
+use Rattle.law_machines.specs.Zipper.{Zipper, AtLeft, AtRight, blank_zipper, steps, Comes, Goes, repeat}
+use Rattle.law_machines.proofs.RuleLaws.{run, run⁺, same, ◌⨾◌, ◌⨾⁺◌, ◌⁺⨾◌, never_by_rules, repeat_last, repeat_swap, repeat_turned, sweep_right, sweep_left, same_blank, same_word, same_repeat, same_right}
+use Rattle.law_machines.proofs.DigitLists.{o, i, oo, ii, io, oi}
 
 -- the table as it is stored
 abbrev pub skelet10 : Packed

@@ -30,17 +30,14 @@
 -- After 71 steps the run of the mirror image stands at $ 1 <C 0 11 11 11 10 11 $: left counter 1, right counter 11101,
 -- both with their least digits nearest to the head. 23 >= 1 + 2^4 + 1, so the invariant holds.
 use Rattle.std.proofs.Common.{List, [], ◌∷◌, refl, arith}
-use Rattle.machine_text.specs.declared.transition.Sym.{Sym}
-use Rattle.machine_text.specs.declared.transition.Sym.TheVariants.{Zero, One}
-use Rattle.machine_text.specs.Packed.{Packed, entry_of}
-use Rattle.law_turing.specs.Machine.{Machine}
-use Rattle.law_turing.specs.Halting.{Never}
-use Rattle.law_turing.specs.Mirror.{mirrored}
-use Rattle.law_turing.proofs.Exchanges.{mirror_keeps}
+use Rattle.machine_text.specs.declared.table.Sym.{Sym}
+use Rattle.machine_text.specs.declared.table.Sym.TheVariants.{Zero, One}
+use Rattle.machine_text.specs.Terms.{Packed, entry_of}
+use Rattle.law_turing.specs.Terms.{Machine, mirrored, Never}
+use Rattle.law_turing.proofs.Renaming.{mirror_keeps}
 use Rattle.law_machines.specs.Zipper.{AtLeft, blank_zipper, steps}
 use Rattle.law_machines.proofs.RuleLaws.{run, run⁺}
-use Rattle.law_machines.proofs.Cells.{i}
-use Rattle.law_machines.proofs.ShiftLists.{pairs}
+use Rattle.law_machines.proofs.DigitLists.{i, pairs}
 use Rattle.law_machines.proofs.Skelet15And26.{Moves, counts_never}
 
 -- the table as it is stored

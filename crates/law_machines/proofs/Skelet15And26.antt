@@ -10,18 +10,12 @@
 --     eat_far    x 011 (0001)^k <a 0 y       -> x 1 <a 0 (10)^(2 k) 11 y         12 k + 8
 --     first      x b> 01 (01)^(w + 1) 1 $    -> x <a 0 11 (10)^w 11 $            5
 use Rattle.std.proofs.Common.{ℕ, suc, ◌+◌, ◌*◌, ◌≤◌, List, [], ◌∷◌, ◌++◌, sym, ◌∙◌, ap, arith}
-use Rattle.machine_text.specs.declared.transition.Sym.{Sym}
-use Rattle.machine_text.specs.declared.transition.Sym.TheVariants.{Zero, One}
-use Rattle.law_turing.specs.Machine.{Machine}
-use Rattle.law_turing.specs.Halting.{Never}
-use Rattle.law_machines.specs.Zipper.{AtLeft, AtRight, blank_zipper}
-use Rattle.law_machines.specs.Rules.{Comes, Goes}
-use Rattle.law_machines.specs.Words.{repeat}
-use Rattle.law_machines.proofs.RuleLaws.{same, weakened, ◌⨾◌, ◌⨾⁺◌, ◌⁺⨾◌}
-use Rattle.law_machines.proofs.Words.{repeat_turned, sweep_right, sweep_left}
-use Rattle.law_machines.proofs.Cells.{i, ii, io, oi, oooo, iooo, iiii}
-use Rattle.law_machines.proofs.Digits.{twice, val, full, full_pos, val_grow}
-use Rattle.law_machines.proofs.ShiftLists.{pairs, pairs_repeat}
+use Rattle.machine_text.specs.declared.table.Sym.{Sym}
+use Rattle.machine_text.specs.declared.table.Sym.TheVariants.{Zero, One}
+use Rattle.law_turing.specs.Terms.{Machine, Never}
+use Rattle.law_machines.specs.Zipper.{AtLeft, AtRight, blank_zipper, Comes, Goes, repeat}
+use Rattle.law_machines.proofs.RuleLaws.{same, weakened, ◌⨾◌, ◌⨾⁺◌, ◌⁺⨾◌, repeat_turned, sweep_right, sweep_left}
+use Rattle.law_machines.proofs.DigitLists.{i, ii, io, oi, oooo, iooo, iiii, twice, val, full, full_pos, val_grow, pairs, pairs_repeat}
 use Rattle.law_machines.proofs.ShiftTapes.{fours, by, by_pairs, by_twice, tapes_never}
 
 -- the moves that these rules are made of, each a few steps of the machine

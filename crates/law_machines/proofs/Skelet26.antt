@@ -29,15 +29,13 @@
 -- After 84 steps the run stands at $ 1 <A 0 10 11 11 10 11 $: left counter 1, right counter 01101, both with their
 -- least digits nearest to the head. 22 >= 1 + 2^4 + 1, so the invariant holds.
 use Rattle.std.proofs.Common.{List, [], ◌∷◌, refl, arith}
-use Rattle.machine_text.specs.declared.transition.Sym.{Sym}
-use Rattle.machine_text.specs.declared.transition.Sym.TheVariants.{Zero, One}
-use Rattle.machine_text.specs.Packed.{Packed, entry_of}
-use Rattle.law_turing.specs.Machine.{Machine}
-use Rattle.law_turing.specs.Halting.{Never}
+use Rattle.machine_text.specs.declared.table.Sym.{Sym}
+use Rattle.machine_text.specs.declared.table.Sym.TheVariants.{Zero, One}
+use Rattle.machine_text.specs.Terms.{Packed, entry_of}
+use Rattle.law_turing.specs.Terms.{Machine, Never}
 use Rattle.law_machines.specs.Zipper.{AtLeft, blank_zipper, steps}
 use Rattle.law_machines.proofs.RuleLaws.{run, run⁺}
-use Rattle.law_machines.proofs.Cells.{i}
-use Rattle.law_machines.proofs.ShiftLists.{pairs}
+use Rattle.law_machines.proofs.DigitLists.{i, pairs}
 use Rattle.law_machines.proofs.Skelet15And26.{Moves, counts_never}
 
 -- the table as it is stored

@@ -25,19 +25,13 @@
 -- After 103 steps the run stands at $ 1 <A 0 10 10 11 11 11 $: left counter 1, right counter 0111, both with their
 -- least digits nearest to the head. 14 >= 1 + 2^3 + 1, so the invariant holds.
 use Rattle.std.proofs.Common.{ℕ, zero, suc, ◌≤◌, List, [], ◌∷◌, ◌++◌, sym, ◌∙◌, ap, refl, arith}
-use Rattle.machine_text.specs.declared.transition.Sym.{Sym}
-use Rattle.machine_text.specs.declared.transition.Sym.TheVariants.{Zero, One}
-use Rattle.machine_text.specs.Packed.{Packed, entry_of}
-use Rattle.law_turing.specs.Machine.{Machine}
-use Rattle.law_turing.specs.Halting.{Never}
-use Rattle.law_machines.specs.Zipper.{AtLeft, AtRight, blank_zipper, steps}
-use Rattle.law_machines.specs.Rules.{Comes, Goes}
-use Rattle.law_machines.specs.Words.{repeat}
-use Rattle.law_machines.proofs.RuleLaws.{run, run⁺, same, ◌⨾◌, ◌⨾⁺◌, ◌⁺⨾◌}
-use Rattle.law_machines.proofs.Words.{repeat_turned, sweep_right}
-use Rattle.law_machines.proofs.Cells.{o, i, ii, io, oi, iooo}
-use Rattle.law_machines.proofs.Digits.{twice, val, val_inc}
-use Rattle.law_machines.proofs.ShiftLists.{pairs, pairs_repeat}
+use Rattle.machine_text.specs.declared.table.Sym.{Sym}
+use Rattle.machine_text.specs.declared.table.Sym.TheVariants.{Zero, One}
+use Rattle.machine_text.specs.Terms.{Packed, entry_of}
+use Rattle.law_turing.specs.Terms.{Machine, Never}
+use Rattle.law_machines.specs.Zipper.{AtLeft, AtRight, blank_zipper, steps, Comes, Goes, repeat}
+use Rattle.law_machines.proofs.RuleLaws.{run, run⁺, same, ◌⨾◌, ◌⨾⁺◌, ◌⁺⨾◌, repeat_turned, sweep_right}
+use Rattle.law_machines.proofs.DigitLists.{o, i, ii, io, oi, iooo, twice, val, val_inc, pairs, pairs_repeat}
 use Rattle.law_machines.proofs.ShiftTapes.{fours, by, by_twice, tapes_never}
 use Rattle.law_machines.proofs.Skelet33To35.{table, carry, clear, forth, back, turn, turn_near, turn_far}
 

@@ -18,16 +18,13 @@
 --     turn_near  x 01 <C y           -> x 1 B> 0 y            2
 --     turn_far   x 0000 <C 1 y       -> x 1 0000 B> y         8
 use Rattle.std.proofs.Common.{ℕ, zero, suc, List, [], ◌∷◌, ◌++◌, ap, refl}
-use Rattle.machine_text.specs.declared.transition.Sym.{Sym}
-use Rattle.machine_text.specs.declared.transition.Sym.TheVariants.{Zero, One}
-use Rattle.machine_text.specs.Packed.{Packed, entry_of}
-use Rattle.law_turing.specs.Machine.{Machine}
-use Rattle.law_machines.specs.Zipper.{AtLeft, AtRight, steps}
-use Rattle.law_machines.specs.Rules.{Comes, Goes}
-use Rattle.law_machines.specs.Words.{repeat}
-use Rattle.law_machines.proofs.RuleLaws.{run, run⁺, stay, same, ◌⨾◌}
-use Rattle.law_machines.proofs.Words.{repeat_last, sweep_right, sweep_left}
-use Rattle.law_machines.proofs.Cells.{ii, oi, oooo, iooo, iiii}
+use Rattle.machine_text.specs.declared.table.Sym.{Sym}
+use Rattle.machine_text.specs.declared.table.Sym.TheVariants.{Zero, One}
+use Rattle.machine_text.specs.Terms.{Packed, entry_of}
+use Rattle.law_turing.specs.Terms.{Machine}
+use Rattle.law_machines.specs.Zipper.{AtLeft, AtRight, steps, Comes, Goes, repeat}
+use Rattle.law_machines.proofs.RuleLaws.{run, run⁺, stay, same, ◌⨾◌, repeat_last, sweep_right, sweep_left}
+use Rattle.law_machines.proofs.DigitLists.{ii, oi, oooo, iooo, iiii}
 
 -- the table as it is stored, where e is the code of its entry E1
 abbrev pub table : ℕ → Packed

@@ -19,16 +19,13 @@
 -- After 118 steps the run stands at $ 1 <A 0 11 10 11 10 11 $: left counter 1, right counter 10101 in binary, both with
 -- their least digits nearest to the head. 21 >= 1 + 2^4 + 1, so the invariant holds.
 use Rattle.std.proofs.Common.{List, [], ◌∷◌, refl, arith}
-use Rattle.machine_text.specs.declared.transition.Sym.{Sym}
-use Rattle.machine_text.specs.declared.transition.Sym.TheVariants.{Zero, One}
-use Rattle.machine_text.specs.Packed.{Packed, entry_of}
-use Rattle.law_turing.specs.Machine.{Machine}
-use Rattle.law_turing.specs.Halting.{Never}
-use Rattle.law_machines.specs.Zipper.{AtLeft, AtRight, blank_zipper, steps}
-use Rattle.law_machines.specs.Rules.{Comes, Goes}
+use Rattle.machine_text.specs.declared.table.Sym.{Sym}
+use Rattle.machine_text.specs.declared.table.Sym.TheVariants.{Zero, One}
+use Rattle.machine_text.specs.Terms.{Packed, entry_of}
+use Rattle.law_turing.specs.Terms.{Machine, Never}
+use Rattle.law_machines.specs.Zipper.{AtLeft, AtRight, blank_zipper, steps, Comes, Goes}
 use Rattle.law_machines.proofs.RuleLaws.{run, run⁺}
-use Rattle.law_machines.proofs.Cells.{i}
-use Rattle.law_machines.proofs.ShiftLists.{pairs}
+use Rattle.law_machines.proofs.DigitLists.{i, pairs}
 use Rattle.law_machines.proofs.Skelet33To35.{table}
 use Rattle.law_machines.proofs.Skelet34And35.{counts_never}
 

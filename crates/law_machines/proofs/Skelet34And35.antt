@@ -8,18 +8,13 @@
 --     eat_far    x 011 (0001)^k <A 0 y       -> x 1 <A 0 (10)^(2 k) 11 y
 --     first      x B> 01 (01)^(w + 1) 1 $    -> x <A 0 11 (10)^w 11 $
 use Rattle.std.proofs.Common.{ℕ, suc, ◌+◌, ◌*◌, ◌≤◌, List, [], ◌∷◌, sym, ◌∙◌, ap, refl, arith}
-use Rattle.machine_text.specs.declared.transition.Sym.{Sym}
-use Rattle.machine_text.specs.declared.transition.Sym.TheVariants.{Zero, One}
-use Rattle.machine_text.specs.Packed.{entry_of}
-use Rattle.law_turing.specs.Halting.{Never}
-use Rattle.law_machines.specs.Zipper.{AtLeft, AtRight, blank_zipper, steps}
-use Rattle.law_machines.specs.Rules.{Comes, Goes}
-use Rattle.law_machines.specs.Words.{repeat}
-use Rattle.law_machines.proofs.RuleLaws.{run, run⁺, same, ◌⨾◌, ◌⨾⁺◌, ◌⁺⨾◌}
-use Rattle.law_machines.proofs.Words.{repeat_last, repeat_turned}
-use Rattle.law_machines.proofs.Cells.{i, ii, io, oi, iooo}
-use Rattle.law_machines.proofs.Digits.{twice, val, full}
-use Rattle.law_machines.proofs.ShiftLists.{pairs}
+use Rattle.machine_text.specs.declared.table.Sym.{Sym}
+use Rattle.machine_text.specs.declared.table.Sym.TheVariants.{Zero, One}
+use Rattle.machine_text.specs.Terms.{entry_of}
+use Rattle.law_turing.specs.Terms.{Never}
+use Rattle.law_machines.specs.Zipper.{AtLeft, AtRight, blank_zipper, steps, Comes, Goes, repeat}
+use Rattle.law_machines.proofs.RuleLaws.{run, run⁺, same, ◌⨾◌, ◌⨾⁺◌, ◌⁺⨾◌, repeat_last, repeat_turned}
+use Rattle.law_machines.proofs.DigitLists.{i, ii, io, oi, iooo, twice, val, full, pairs}
 use Rattle.law_machines.proofs.ShiftTapes.{fours, by, by_two, by_pairs, by_twice, tapes_never}
 use Rattle.law_machines.proofs.Skelet33To35.{machine, carry, clear, forth, back, turn, turn_near, turn_far}
 

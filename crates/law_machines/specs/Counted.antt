@@ -1,22 +1,44 @@
+-- Counted automata, and cosets of points.
+use Rattle.std.specs.Prelude.{◌≡◌, ℕ, ℤ, pos, ◌-ℤ◌, ◌*ℤ◌, List, [], ◌∷◌, ◌≢◌, ◌+◌, ◌<◌, ◌≤◌, ◌==◌, if◌then◌else◌, ◌+ℤ◌, ◌<ℤ◌, Contains, Option, Some, None}
+use Rattle.machine_text.specs.declared.table.Sym.{Sym}
+use Rattle.machine_text.specs.declared.table.Sym.TheVariants.{Zero}
+use Rattle.machine_text.specs.declared.table.Dir.{Dir}
+use Rattle.machine_text.specs.declared.table.Dir.TheVariants.{L, R}
+use Rattle.machine_text.specs.declared.table.State.{State}
+use Rattle.machine_text.specs.declared.table.Entry.{Entry}
+use Rattle.law_turing.specs.Terms.{Machine, symbol_read, moved_head, Config, cell, opposite, Beyond, behind, symbols_ahead}
+use Rattle.law_machines.specs.declared.counted.Count.{Count}
+use Rattle.law_machines.specs.declared.counted.Transition.{Transition}
+use Rattle.law_machines.specs.declared.counted.Local.{Local}
+
+-- Points with a whole number for each count, and cosets of them: a base, and any whole multiples of some rows.
+
+-- a number for each count
+abbrev pub Point : Type 0
+Point = ℕ → ℤ
+
+abbrev pub zeros : Point
+zeros x = pos 0
+
+-- one point less so many times another
+abbrev pub less : Point → ℤ → Point → Point
+less v f row = λ x. v x -ℤ (f *ℤ row x)
+
+-- the point is a sum of multiples of the rows
+abbrev pub IsSum : List Point → Point → Type 0
+IsSum [] v = (x : ℕ) → v x ≡ pos 0
+IsSum (row ∷ rows) v = (f : ℤ) × IsSum rows (less v f row)
+
+pub record Coset : Type 0 where
+  pub base : Point
+  pub rows : List Point
+
+-- the point is the coset's base and a sum of multiples of its rows
+pub record IsMember (k : Coset) (v : Point) : Type 0 where
+  pub sum : IsSum k.rows (λ x. v x -ℤ k.base x)
+
 -- Counted automata. Two automata read the two half tapes, each from far away towards the head, and count how often
 -- some of their transitions are taken. What can stand around the head comes with a coset, in which the counts lie.
-use Rattle.std.specs.Prelude.{◌≡◌, ◌≢◌, ℕ, ◌+◌, ◌<◌, ◌≤◌, ◌==◌, if◌then◌else◌, ℤ, pos, ◌+ℤ◌, ◌-ℤ◌, ◌<ℤ◌, List, [], ◌∷◌, Contains, Option, Some, None}
-use Rattle.machine_text.specs.declared.transition.Sym.{Sym}
-use Rattle.machine_text.specs.declared.transition.Sym.TheVariants.{Zero}
-use Rattle.machine_text.specs.declared.transition.Dir.{Dir}
-use Rattle.machine_text.specs.declared.transition.Dir.TheVariants.{L, R}
-use Rattle.machine_text.specs.declared.transition.State.{State}
-use Rattle.machine_text.specs.declared.transition.Entry.{Entry}
-use Rattle.law_turing.specs.Machine.{Machine}
-use Rattle.law_turing.specs.Tape.{symbol_read, moved_head}
-use Rattle.law_turing.specs.Run.{Config, cell}
-use Rattle.law_turing.specs.Mirror.{opposite}
-use Rattle.law_turing.specs.Translated.{Beyond}
-use Rattle.law_turing.specs.Automata.{behind, symbols_ahead}
-use Rattle.law_machines.specs.Cosets.{Point, zeros, Coset, IsMember}
-use Rattle.law_machines.specs.declared.count.Count.{Count}
-use Rattle.law_machines.specs.declared.transition.Transition.{Transition}
-use Rattle.law_machines.specs.declared.local.Local.{Local}
 
 -- the transitions of an automaton; some may be missing
 abbrev pub Delta : Type 0

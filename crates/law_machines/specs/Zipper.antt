@@ -1,13 +1,14 @@
+-- Zippers, half tapes as words, and rules.
+use Rattle.std.specs.Prelude.{◌≡◌, ℕ, zero, suc, ℤ, pos, ◌+ℤ◌, ◌-ℤ◌, List, [], ◌∷◌, Option, Some, None, ◌++◌}
+use Rattle.machine_text.specs.declared.table.Sym.{Sym}
+use Rattle.machine_text.specs.declared.table.Sym.TheVariants.{Zero}
+use Rattle.machine_text.specs.declared.table.Dir.{Dir}
+use Rattle.machine_text.specs.declared.table.Dir.TheVariants.{L, R}
+use Rattle.machine_text.specs.declared.table.Entry.{Entry}
+use Rattle.law_turing.specs.Terms.{Machine, Config, cell, from}
+
 -- A configuration as a zipper: two half tapes and a state between them. Each list holds the cells of its half from
 -- the middle outwards, and all cells beyond it are blank. The head is on the first cell of one of the two.
-use Rattle.std.specs.Prelude.{◌≡◌, ℕ, zero, suc, ℤ, pos, ◌+ℤ◌, ◌-ℤ◌, List, [], ◌∷◌, Option, Some, None}
-use Rattle.machine_text.specs.declared.transition.Sym.{Sym}
-use Rattle.machine_text.specs.declared.transition.Sym.TheVariants.{Zero}
-use Rattle.machine_text.specs.declared.transition.Dir.{Dir}
-use Rattle.machine_text.specs.declared.transition.Dir.TheVariants.{L, R}
-use Rattle.machine_text.specs.declared.transition.Entry.{Entry}
-use Rattle.law_turing.specs.Machine.{Machine}
-use Rattle.law_turing.specs.Run.{Config, cell}
 
 -- the left half, the state's number and the right half; the head is on the first cell of the left or of the right one
 pub data Zipper : Type 0 where
@@ -79,3 +80,24 @@ step_on m (Some z) = step m z
 unfoldable pub steps : Machine → ℕ → Zipper → Option Zipper
 steps m zero z = Some z
 steps m (suc k) z = step_on m (steps m k z)
+
+-- Half tapes as words: a word repeated, and half tapes that are the same but for blanks at their far ends.
+
+-- the word w, n times, before l
+abbrev pub repeat : List Sym → ℕ → List Sym → List Sym
+repeat w zero l = l
+repeat w (suc n) l = w ++ repeat w n l
+
+-- the same symbol at each place
+pub record SameCells (l k : List Sym) : Type 0 where
+  pub cell : (n : ℕ) → symbol_at l n ≡ symbol_at k n
+
+-- Rules: from each configuration that the one zipper is, a run leads to a configuration that the other is.
+
+-- in some number of steps, or none
+pub record Comes (m : Machine) (z w : Zipper) : Type 0 where
+  pub run : (c : Config) → Describes z c → (k : ℕ) × (d : Config) × (from m k c ≡ Some d) × Describes w d
+
+-- in at least one step
+pub record Goes (m : Machine) (z w : Zipper) : Type 0 where
+  pub run : (c : Config) → Describes z c → (k : ℕ) × (d : Config) × (from m (suc k) c ≡ Some d) × Describes w d

@@ -1,13 +1,18 @@
-// The machines whose proofs stand in this crate, and which of them a table is.
-ghost use Rattle.std.specs.Prelude.{◌≡◌, ◌↔◌, Some, IsTrue, IfSome};
-ghost use Rattle.machine_text.specs.Packed.{entry_of};
-ghost use Rattle.machine_text.specs.Text.{text_of};
-ghost use Rattle.law_turing.specs.Halting.{Never};
-ghost use Rattle.law_machines.specs.declared.machines.ProvedMachine.{ProvedMachine as Proved};
+// The machines whose proofs stand in this crate, which of them a table is, and what is proved of them.
+ghost use Rattle.std.specs.Prelude.{◌≡◌, ℕ, true, List, Ok, bytes_eq, ◌↔◌, Some, IsTrue, IfSome};
+ghost use Rattle.machine_text.specs.Terms.{Packed, entry_of, IsTable, table_of, text_of};
+ghost use Rattle.law_turing.specs.Terms.{Never};
+ghost use Rattle.law_machines.specs.declared.machines.ProvedMachine.{ProvedMachine as Proved, ProvedMachine};
 ghost use Rattle.law_machines.specs.Tables.{table_text};
 
 use machine_text::{TEXT_BYTES, Table};
 use std::fmt;
+
+/// Texts with the same bytes name one table.
+pub fn table_by_text()
+    ensures { (known : List ℕ) (t : Packed) → table_of known ≡ Ok t → (text : List ℕ) (p : Packed) →
+        table_of text ≡ Ok p → bytes_eq text known ≡ true → p ≡ t }
+{}
 
 /// A machine whose proof stands in this crate, by its number in Skelet's list (Georgiev 2003).
 #[derive(Clone, Copy, Debug, PartialEq, Eq)]
@@ -98,3 +103,9 @@ pub fn is_proved(t: &Table) -> bool
 {
     ProvedMachine::of(t).is_some()
 }
+
+/// Each of the machines never halts: the text of each names a table, and a table with that text never does.
+pub fn proved_machines_never()
+    ensures named { (m : ProvedMachine) → (p : Packed) × (table_of (table_text m) ≡ Ok p) × Never (entry_of p) }
+    ensures never { (m : ProvedMachine) (p : Packed) → IsTable p → text_of p ≡ table_text m → Never (entry_of p) }
+{}

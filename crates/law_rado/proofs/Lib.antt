@@ -1,4 +1,1 @@
-pub mod Machines
-pub mod Runs
-pub mod Ones
-pub mod Greatest
+pub mod SameMachineLaws

@@ -1,11 +1,11 @@
 -- When a machine of `BusyBeaver` and one of law_turing's `Machine` are the same one, written in two ways.
 use Rattle.std.specs.Prelude.{◌≡◌, ℕ, Option, Some, None}
-use Rattle.machine_text.specs.declared.transition.Sym.{Sym}
-use Rattle.machine_text.specs.declared.transition.Sym.TheVariants as sym_of
-use Rattle.machine_text.specs.declared.transition.Dir.{Dir}
-use Rattle.machine_text.specs.declared.transition.Dir.TheVariants as dir_of
-use Rattle.machine_text.specs.declared.transition.Entry.{Entry}
-use Rattle.law_turing.specs.Machine.{Machine}
+use Rattle.machine_text.specs.declared.table.Sym.{Sym}
+use Rattle.machine_text.specs.declared.table.Sym.TheVariants as sym_of
+use Rattle.machine_text.specs.declared.table.Dir.{Dir}
+use Rattle.machine_text.specs.declared.table.Dir.TheVariants as dir_of
+use Rattle.machine_text.specs.declared.table.Entry.{Entry}
+use Rattle.law_turing.specs.Terms.{Machine}
 use Rattle.law_rado.specs.BusyBeaver.{Symbol, Blank, One, Direction, Left, Right, Action, TuringMachine}
 
 abbrev pub as_sym : Symbol → Sym

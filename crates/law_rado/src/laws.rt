@@ -1,9 +1,8 @@
 // The definitions of `BusyBeaver` say the same as those that the other crates speak of.
 ghost use Rattle.std.specs.Prelude.{◌↔◌, ℕ};
-ghost use Rattle.law_turing.specs.Machine.{Machine, IsMachine};
-ghost use Rattle.law_turing.specs.Halting.{HaltsAt, IsRado};
-ghost use Rattle.law_tree.specs.Best.{Scores};
-ghost use Rattle.ledger.specs.Sigma.{IsSigma};
+ghost use Rattle.law_turing.specs.Terms.{Machine, IsMachine, HaltsAt, IsRado};
+ghost use Rattle.law_tree.specs.Terms.{Scores};
+ghost use Rattle.ledger.specs.Terms.{IsSigma};
 ghost use Rattle.law_rado.specs.BusyBeaver.{TuringMachine, HasStates, HaltsInSteps, HaltsWithOnes, IsS, IsSigmaOf};
 ghost use Rattle.law_rado.specs.SameMachine.{IsSameMachine};
 

@@ -1,5 +1,5 @@
-//! What S(n) and Σ(n) are, in one file of definitions (`specs/BusyBeaver`), and that they are what the other crates
-//! speak of, as contracts of functions with empty bodies. There is no other code here.
+//! What S(n) and Σ(n) are (`specs/BusyBeaver`), and that they are what the other crates speak of, for machines that are
+//! the same (`specs/SameMachine`), as contracts of functions with empty bodies.
 #![tactic(auto)]
 
 mod laws;

@@ -1,27 +1,33 @@
--- The list of a table's children: its members are exactly the children, each once.
-use Rattle.std.proofs.Common.{◌≡◌, ℕ, ◌<◌, ◌≤◌, List, [], ◌∷◌, length, get_or, map, Some, sym, ◌∙◌, ap, subst, inl, inr, arith}
+-- A table's children stand in their list each once and in text order, and their number is known.
+use Rattle.std.proofs.Common.{◌≡◌, ℕ, ◌<◌, ◌≤◌, List, [], ◌∷◌, length, get_or, map, Some, sym, ◌∙◌, ap, subst, inl, inr, arith, zero, suc, set, ◌+◌, ◌*◌, ◌++◌}
 use Rattle.std.specs.List.{Contains, AllPairs}
-use Rattle.std.proofs.lemmas.Bool.{cases_lt, le-leb, lt-leb}
+use Rattle.std.proofs.lemmas.Bool.{cases_lt, le-leb, lt-leb, lt-ltb, cases_eq}
 use Rattle.std.proofs.lemmas.Option.{same_Some}
-use Rattle.std.proofs.lemmas.List.{get_or-map, length-map}
+use Rattle.std.proofs.lemmas.List.{get_or-map, length-map, length-append}
 use Rattle.std.proofs.lemmas.List.Elements.{Contains-get_or}
-use Rattle.machine_text.specs.declared.transition.Sym.{Sym}
-use Rattle.machine_text.specs.declared.transition.Sym.TheVariants.{Zero}
-use Rattle.machine_text.specs.declared.transition.Dir.TheVariants.{L}
-use Rattle.machine_text.specs.declared.transition.Entry.{Entry}
-use Rattle.machine_text.specs.Packed.{Packed, IsTable, entry_of, with_entry, holes}
-use Rattle.law_turing.specs.Machine.{Machine}
-use Rattle.law_tree.specs.Used.{InOrder, used_count}
-use Rattle.law_tree.specs.Children.{HaltsOn, IsChildEntry, child_entries}
-use Rattle.law_tree.specs.Tables.{IsChildTable, children_at}
+use Rattle.std.specs.Ordering.{nat_cmp, ordering_then}
+use Rattle.std.specs.declared.cmp.Ordering.TheVariants.{Less}
+use Rattle.std.specs.Cmp.Lexicographic.{slice_cmp}
+use Rattle.std.proofs.lemmas.Cmp.{nat_cmp_total, tied_itself}
+use Prim.Native.Nat.{min}
+use Rattle.machine_text.specs.declared.table.Sym.{Sym}
+use Rattle.machine_text.specs.declared.table.Sym.TheVariants.{Zero, One}
+use Rattle.machine_text.specs.declared.table.Dir.TheVariants.{L, R}
+use Rattle.machine_text.specs.declared.table.Entry.{Entry}
+use Rattle.machine_text.specs.Terms.{Packed, IsTable, entry_of, with_entry, holes, code_of, pair_place, text_of}
+use Rattle.law_turing.specs.Terms.{Machine}
+use Rattle.law_tree.specs.Tree.{InOrder, used_count, HaltsOn, IsChildEntry, child_entries, IsChildTable, children_at, Precedes, entries_to}
 use Rattle.law_tree.proofs.Filling.{filled_at}
-use Rattle.law_tree.proofs.UsedCount.{used_number}
-use Rattle.law_tree.proofs.Halts.{pair_within}
-use Rattle.law_tree.proofs.Parents.{same_state, same_read}
-use Rattle.law_tree.proofs.ChildEntries.{listed_is_entry, entry_is_listed}
-use Rattle.law_tree.proofs.EntryOrder.{entries_differ}
-use Rattle.law_turing.proofs.TableLaws.{table_machine}
-use Rattle.law_tree.proofs.Packing.{with_entry_fills}
+use Rattle.law_tree.proofs.Used.{used_number}
+use Rattle.law_tree.proofs.Extensions.{pair_within}
+use Rattle.law_tree.proofs.TreeLaws.{same_state, same_read}
+use Rattle.law_tree.proofs.ChildEntries.{listed_is_entry, entry_is_listed, entries_differ, entries_rise, list_empty, list_filled, length_to}
+use Rattle.law_turing.proofs.RunLaws.{table_machine}
+use Rattle.law_tree.proofs.TableLaws.{with_entry_fills}
+use Rattle.machine_text.proofs.Order.{order_of_texts}
+use Rattle.machine_text.proofs.Tables.{place_in, IsTable-with_entry, with_entry-stored}
+
+-- The list of a table's children: its members are exactly the children, each once.
 
 -- members of a mapped list
 contains_map : {X Y : Type 0} (f : X → Y) (xs : List X) (y : Y) → Contains (map f xs) y → (x : X) × Contains xs x × (f x ≡ y)
@@ -104,3 +110,93 @@ module _ (p : Packed) (u k q : ℕ) (s : Sym) (i : IsTable p) (o : InOrder u (en
           let first : x < length es = omega arith in
           let tables : with_entry p q s (get_or es x none) ≡ with_entry p q s (get_or es y none) = sym (get_or-map (with_entry p q s) es x none d first) ∙ same ∙ get_or-map (with_entry p q s) es y none d last in
           entries_differ p.states (used_count p.states (entry_of p)) (entry_of p) x y none less last (same_entries (get_or es x none) (get_or es y none) (small x first) (small y last) tables)
+
+-- The children of a table at a pair come in the order of their texts.
+
+-- a lower number written at one place of a list makes a lower list
+lower_set : (xs : List ℕ) (i a b : ℕ) → i < length xs → a < b → slice_cmp nat_cmp (set xs i a) (set xs i b) ≡ Less
+lower_set [] i a b lt less = absurd (omega arith)
+lower_set (x ∷ xs) zero a b lt less =
+    let lower : nat_cmp a b ≡ Less = rw (lt-ltb a b less) in
+    ap (λ o. ordering_then o (slice_cmp nat_cmp xs xs)) lower
+lower_set (x ∷ xs) (suc i) a b lt less =
+    ap (λ o. ordering_then o (slice_cmp nat_cmp (set xs i a) (set xs i b))) (tied_itself nat_cmp_total x) ∙ lower_set xs i a b (omega arith) less
+
+-- the codes of entries rise as their texts do
+codes_rise : (a b : Entry) → a.next.0 < 8 → b.next.0 < 8 → Precedes a b → code_of (Some a) < code_of (Some b)
+codes_rise a b low high p = elim p [
+  | inl less ↦ omega arith
+  | inr later ↦ omega arith
+]
+
+module _ (p : Packed) (q : ℕ) (s : Sym) (i : IsTable p) (at : q < p.states) where
+  lower_codes : (a b : Entry) → a.next.0 < p.states → b.next.0 < p.states → code_of (Some a) < code_of (Some b) → slice_cmp nat_cmp (with_entry p q s a).codes (with_entry p q s b).codes ≡ Less
+  lower_codes a b la lb less =
+      rw (with_entry-stored p q s a i at la, with_entry-stored p q s b i at lb) (lower_set p.codes (pair_place q s) (code_of (Some a)) (code_of (Some b)) (place_in p q s i at) less)
+
+  -- tables that differ in one entry are in the order of its texts
+  tables_rise : (a b : Entry) → a.next.0 < p.states → b.next.0 < p.states → Precedes a b → slice_cmp nat_cmp (text_of (with_entry p q s a)) (text_of (with_entry p q s b)) ≡ Less
+  tables_rise a b la lb order =
+      let x = with_entry p q s a in
+      let y = with_entry p q s b in
+      sym (order_of_texts x y (IsTable-with_entry p q s a i at la) (IsTable-with_entry p q s b i at lb))
+      ∙ ap (λ o. ordering_then o (nat_cmp x.states y.states)) (lower_codes a b la lb (codes_rise a b (omega (arith, i.limit)) (omega (arith, i.limit)) order))
+
+  pub children_rise : AllPairs (λ a b. slice_cmp nat_cmp (text_of a) (text_of b) ≡ Less) (children_at p q s)
+  children_rise = elim (cases_lt (holes p.states (entry_of p)) 2) [
+    | inl few ↦ subst (λ (ts : List Packed). AllPairs (λ a b. slice_cmp nat_cmp (text_of a) (text_of b) ≡ Less) ts) (sym (no_children p q s few)) (λ x y d less within. absurd (omega arith))
+    | inr two ↦ subst (λ (ts : List Packed). AllPairs (λ a b. slice_cmp nat_cmp (text_of a) (text_of b) ≡ Less) ts) (sym (some_children p q s two)) rising
+  ]
+    where
+      none : Entry
+      none = record { write = Zero; dir = L; next = record { 0 = 0 } }
+
+      es : List Entry
+      es = entries_of p
+
+      small : (x : ℕ) → x < length es → (get_or es x none).next.0 < p.states
+      small x lt = (listed_is_entry p.states (used_count p.states (entry_of p)) (entry_of p) (get_or es x none) (table_machine p i) (Contains-get_or es x none lt)).within
+
+      rising : AllPairs (λ a b. slice_cmp nat_cmp (text_of a) (text_of b) ≡ Less) (map (with_entry p q s) es)
+      rising x y d less within =
+          let last : y < length es = omega (arith, length-map es (with_entry p q s)) in
+          let first : x < length es = omega arith in
+          let rise = tables_rise (get_or es x none) (get_or es y none) (small x first) (small y last) (entries_rise p.states (used_count p.states (entry_of p)) (entry_of p) x y none less last) in
+          let left : get_or (map (with_entry p q s) es) x d ≡ with_entry p q s (get_or es x none) = get_or-map (with_entry p q s) es x none d first in
+          let right : get_or (map (with_entry p q s) es) y d ≡ with_entry p q s (get_or es y none) = get_or-map (with_entry p q s) es y none d last in
+          ap (λ (a : Packed). slice_cmp nat_cmp (text_of a) (text_of (get_or (map (with_entry p q s) es) y d))) left
+          ∙ ap (λ (b : Packed). slice_cmp nat_cmp (text_of (with_entry p q s (get_or es x none))) (text_of b)) right ∙ rise
+
+-- How many children a table has.
+
+-- there are at most four for each state
+length_entries : (n u : ℕ) (m : Machine) → length (child_entries n u m) ≤ 4 * n
+length_entries n u m = elim (cases_eq (holes n m) (2 * n)) [
+  | inl all ↦ omega (arith, ap length (list_empty n u m all), length-append (entries_to t Zero R) (entries_to t One R), length_to t Zero R, length_to t One R)
+  | inr some ↦ omega (
+    arith,
+    ap length (list_filled n u m some),
+    length-append zeros ones,
+    length-append (entries_to t Zero L) (entries_to t Zero R),
+    length-append (entries_to t One L) (entries_to t One R),
+    length_to t Zero L,
+    length_to t Zero R,
+    length_to t One L,
+    length_to t One R,
+  )
+]
+  where
+    t : ℕ
+    t = min n (u + 1)
+
+    zeros : List Entry
+    zeros = entries_to t Zero L ++ entries_to t Zero R
+
+    ones : List Entry
+    ones = entries_to t One L ++ entries_to t One R
+
+pub children_bound : (p : Packed) (q : ℕ) (s : Sym) → length (children_at p q s) ≤ 4 * p.states
+children_bound p q s = elim (cases_lt (holes p.states (entry_of p)) 2) [
+  | inl few ↦ omega (arith, ap length (no_children p q s few))
+  | inr two ↦ omega (arith, ap length (some_children p q s two), length-map (entries_of p) (with_entry p q s), length_entries p.states (used_count p.states (entry_of p)) (entry_of p))
+]

@@ -1,7 +1,2 @@
-pub mod Filling
-pub mod Used
-pub mod Children
 pub mod Tree
-pub mod Best
-pub mod Tables
-pub mod Closed
+pub mod Terms

@@ -1,21 +1,47 @@
--- No step leaves a closed position set, so a machine that has one never halts.
-use Rattle.std.proofs.Common.{◌≡◌, ℕ, zero, suc, ℤ, pos, ◌+ℤ◌, ◌-ℤ◌, List, [], ◌∷◌, ◌++◌, replicate, Option, Some, None, sym, ◌∙◌, ap, subst, refl, arith}
+-- No step leaves a closed position set, which looks at words of adjacent cells, so its machine never halts.
+use Rattle.std.proofs.Common.{◌≡◌, ℕ, zero, suc, ℤ, pos, ◌+ℤ◌, ◌<ℤ◌, ◌≤ℤ◌, [], ◌∷◌, ◌++◌, replicate, ◌∙◌, ap, refl, arith, ◌-ℤ◌, List, Option, Some, None, sym, subst}
 use Rattle.std.proofs.lemmas.Int.{ints, by_lt_z}
-use Rattle.machine_text.specs.declared.transition.Sym.{Sym}
-use Rattle.machine_text.specs.declared.transition.Sym.TheVariants.{Zero}
-use Rattle.machine_text.specs.declared.transition.Dir.{Dir}
-use Rattle.machine_text.specs.declared.transition.Dir.TheVariants.{L, R}
-use Rattle.machine_text.specs.declared.transition.Entry.{Entry}
-use Rattle.law_turing.specs.Machine.{Machine}
-use Rattle.law_turing.specs.Tape.{symbol_read, moved_head}
-use Rattle.law_turing.specs.Run.{Config, start, cell, carried_out, next, from}
-use Rattle.law_turing.specs.Step.{Takes}
+use Rattle.machine_text.specs.declared.table.Sym.TheVariants.{Zero}
+use Rattle.law_turing.specs.Run.{Config, start, cell, Machine, symbol_read, moved_head, carried_out, next, from, Takes}
+use Rattle.law_turing.specs.NeverHalting.{word, Local, local_of, IsClosedSet, IsInside}
+use Rattle.law_turing.proofs.Cycles.{start_blank}
+use Rattle.machine_text.specs.declared.table.Sym.{Sym}
+use Rattle.machine_text.specs.declared.table.Dir.{Dir}
+use Rattle.machine_text.specs.declared.table.Dir.TheVariants.{L, R}
+use Rattle.machine_text.specs.declared.table.Entry.{Entry}
 use Rattle.law_turing.specs.Halting.{Never}
-use Rattle.law_turing.specs.PositionSet.{word, Local, local_of, IsClosedSet, IsInside}
-use Rattle.law_turing.proofs.Steps.{taken_takes, next_taken}
-use Rattle.law_turing.proofs.OneState.{start_blank}
-use Rattle.law_turing.proofs.Invariants.{invariant_law, never_by_invariant}
-use Rattle.law_turing.proofs.Words.{word_first, word_last, word_same, word_blank}
+use Rattle.law_turing.proofs.RunLaws.{taken_takes, next_taken, invariant_law, never_by_invariant}
+
+-- Words of adjacent cells.
+
+-- the first cell of a word
+pub word_first : (c : Config) (x : ℤ) (n : ℕ) → word c x (suc n) ≡ cell c x ∷ word c (x +ℤ pos 1) n
+unfolding word
+word_first c x n = refl
+
+-- and the last
+pub word_last : (c : Config) (x : ℤ) (n : ℕ) → word c x (suc n) ≡ word c x n ++ cell c (x +ℤ pos n) ∷ []
+unfolding word
+word_last c x zero = ap (λ y. cell c y ∷ []) (let e : x ≡ x +ℤ pos 0 = omega (arith, ints) in e)
+word_last c x (suc n) =
+    let place : (x +ℤ pos 1) +ℤ pos n ≡ x +ℤ pos (suc n) = omega (arith, ints) in
+    ap (λ w. cell c x ∷ w) (word_last c (x +ℤ pos 1) n) ∙ ap (λ y. cell c x ∷ (word c (x +ℤ pos 1) n ++ cell c y ∷ [])) place
+
+-- words of the same cells are the same
+pub word_same : (c d : Config) (x : ℤ) (n : ℕ) → ((y : ℤ) → x ≤ℤ y → y <ℤ (x +ℤ pos n) → cell c y ≡ cell d y) → word c x n ≡ word d x n
+unfolding word
+word_same c d x zero same = refl
+word_same c d x (suc n) same =
+    ap (λ s. s ∷ word c (x +ℤ pos 1) n) (same x (omega (arith, ints)) (omega (arith, ints))) ∙
+    ap (λ w. cell d x ∷ w) (word_same c d (x +ℤ pos 1) n (λ y low high. same y (omega (arith, ints)) (omega (arith, ints))))
+
+-- the words of the blank tape
+pub word_blank : (x : ℤ) (n : ℕ) → word start x n ≡ replicate n Zero
+unfolding word
+word_blank x zero = refl
+word_blank x (suc n) = ap (λ s. s ∷ word start (x +ℤ pos 1) n) (start_blank x) ∙ ap (λ w. Zero ∷ w) (word_blank (x +ℤ pos 1) n)
+
+-- No step leaves a closed position set, so a machine that has one never halts.
 
 -- local configurations with the same parts are one
 same_local : (a b : Local) → a.left ≡ b.left → a.state ≡ b.state → a.read ≡ b.read → a.right ≡ b.right → a ≡ b

@@ -7,17 +7,13 @@ use Rattle.std.proofs.lemmas.Bool.{cases_lt, eqb-true}
 use Rattle.std.proofs.lemmas.Bool.Decides.{Decides-eqb}
 use Rattle.std.proofs.lemmas.List.{map-append, length-map}
 use Rattle.std.proofs.lemmas.Option.{none-some, same_Some, cond_some}
-use Rattle.machine_text.specs.declared.transition.Sym.{Sym}
-use Rattle.machine_text.specs.declared.transition.Sym.TheVariants.{Zero, One}
-use Rattle.machine_text.specs.declared.transition.Entry.{Entry}
-use Rattle.law_turing.specs.Machine.{Machine, IsMachine}
-use Rattle.law_turing.specs.Run.{Config, after}
-use Rattle.law_turing.specs.Backward.{Ends, Backward, Pair, Partial, RunsThrough, IsPath, IsNeeded, IsWider, AllPaths, LeadsTo, standing_on, left_behind, before_step}
-use Rattle.law_turing.specs.Levels.{all_pairs, may_hold, can_lead_to, known_at_end, known_before, level}
+use Rattle.machine_text.specs.declared.table.Sym.{Sym}
+use Rattle.machine_text.specs.declared.table.Sym.TheVariants.{Zero, One}
+use Rattle.machine_text.specs.declared.table.Entry.{Entry}
+use Rattle.law_turing.specs.Run.{Machine, IsMachine, Config, after}
+use Rattle.law_turing.specs.NeverHalting.{Ends, Backward, Pair, Partial, RunsThrough, IsPath, IsNeeded, IsWider, AllPaths, LeadsTo, standing_on, left_behind, before_step, all_pairs, may_hold, can_lead_to, known_at_end, known_before, level}
 use Rattle.law_turing.proofs.Listed.{Member, member_left, member_right, member_append, member_of_filter_map, member_by_filter_map, member_of_flat_map, member_by_flat_map, Different, different_append, different_filter_map, different_flat_map, contains_member, all_members, all_different}
-use Rattle.law_turing.proofs.BackwardLaws.{path_ends, ends_path, same_pair}
-use Rattle.law_turing.proofs.PartialTapes.{base_law, join_law, clash_law}
-use Rattle.law_turing.proofs.Paths.{needed_path, path_zero, path_suc, wider_law, longer_wider}
+use Rattle.law_turing.proofs.BackwardLaws.{path_ends, ends_path, same_pair, base_law, join_law, clash_law, needed_path, path_zero, path_suc, wider_law, longer_wider}
 
 -- one of the two pairs of a state
 of_state : (n : ℕ) (p : Pair) → p.state ≡ n → Member p (record { state = n; symbol = Zero } ∷ record { state = n; symbol = One } ∷ [])

@@ -1,14 +1,4 @@
 pub mod Finals
-pub mod Refusals
-pub mod InStep
-pub mod Begun
-pub mod Acknowledged
-pub mod KnownRecords
-pub mod CoordinatorFinals
-pub mod WorkerBoards
-pub mod Making
-pub mod WorkerDue
-pub mod WorkerFrames
+pub mod CoordinatorLedgers
 pub mod WorkerLaws
-pub mod WorkerSends
-pub mod WorkerFinals
+pub mod DueRecords

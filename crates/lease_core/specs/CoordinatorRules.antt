@@ -2,33 +2,27 @@
 use Rattle.std.specs.Prelude.{◌≡◌, ◌⊎◌, ℕ, ◌<◌, ◌==◌, Bool, true, false, max, [], ◌∷◌, Option, Some, None, Result, Ok, Err}
 use Rattle.run.specs.declared.reach.Reach.{Reach}
 use Rattle.run.specs.declared.reach.Reach.TheVariants.{Early, Late}
-use Rattle.kind_evidence.specs.Verdict.{refused_number}
+use Rattle.kind_evidence.specs.Terms.{refused_number}
 use Rattle.kind_evidence.specs.declared.verdicts.Refused.TheVariants.{TooLong}
-use Rattle.cert.specs.Claim.{Claim, HaltsClaim, NeverClaim, NoClaim, Recorded}
-use Rattle.cert.specs.Scored.{with_score}
-use Rattle.ledger.specs.Faults.{offer_fault_number}
-use Rattle.ledger.specs.Offers.{IsKnown, KeepsTree, OfferGives}
-use Rattle.ledger.specs.declared.format.Format.{Format}
-use Rattle.ledger.specs.declared.taken.Taken.{Taken}
-use Rattle.ledger.specs.declared.taken.Taken.TheVariants.{New, Known, Settled}
+use Rattle.cert.specs.Terms.{Claim, HaltsClaim, NeverClaim, NoClaim, Recorded, with_score}
+use Rattle.ledger.specs.Terms.{offer_fault_number, IsKnown, KeepsTree, OfferGives}
+use Rattle.ledger.specs.declared.header.Format.{Format}
+use Rattle.ledger.specs.declared.faults.Taken.{Taken}
+use Rattle.ledger.specs.declared.faults.Taken.TheVariants.{New, Known, Settled}
 use Rattle.ledger.specs.declared.faults.OfferFault.{OfferFault}
 use Rattle.ledger.specs.declared.faults.OfferFault.TheVariants.{WrongSize, NotOpen, Refused as NotStanding, NoMemory as OfferNoMemory}
-use Rattle.wire.specs.Happening.{Happening, Came, Ticked, Worked}
-use Rattle.wire.specs.Grammar.{message_of}
-use Rattle.wire.specs.Message.{Message, Ask, Grant, Rec, Ack, Later, Done, Stop}
-use Rattle.wire.specs.declared.message_fault.MsgFault.{MsgFault}
+use Rattle.wire.specs.Terms.{Happening, Came, Ticked, Worked, message_of, Message, Ask, Grant, Rec, Ack, Later, Done, Stop}
+use Rattle.wire.specs.declared.messages.MsgFault.{MsgFault}
 use Rattle.wire.specs.declared.node.Note.{Note}
 use Rattle.wire.specs.declared.node.Note.TheVariants.{Quiet, Strange, Stale}
 use Rattle.wire.specs.declared.node.NodeFault.{NodeFault}
 use Rattle.wire.specs.declared.node.NodeFault.TheVariants.{Stopped, NoMemory}
 use Rattle.wire.specs.declared.node.Out.{Out}
-use Rattle.leases.specs.Leases.{Leased, SomeEnds, is_live, ticked, IsDone}
-use Rattle.leases.specs.Asks.{Asks}
-use Rattle.leases.specs.Offers.{LeasesAfter}
+use Rattle.leases.specs.Terms.{Leased, SomeEnds, is_live, ticked, IsDone, Asks, LeasesAfter}
 use Rattle.lease_core.specs.Limits.{peer_step_limit}
 use Rattle.lease_core.specs.Says.{Says, NotesRefusal, lines_of}
-use Rattle.leases.specs.declared.reply.Reply.{Reply}
-use Rattle.leases.specs.declared.reply.Reply.TheVariants.{Stop as ToStop, Later as ToWait, Grant as ToGrant}
+use Rattle.leases.specs.declared.held_leases.Reply.{Reply}
+use Rattle.leases.specs.declared.held_leases.Reply.TheVariants.{Stop as ToStop, Later as ToWait, Grant as ToGrant}
 
 -- its era, its board with the leases on it, which there are unless its start was refused, and whether it was stopped
 pub record Coordinating : Type 0 where

@@ -1,14 +1,18 @@
--- What a node's answer says.
-use Rattle.std.specs.Prelude.{◌≡◌, ℕ, List, [], Option, Some, None, map}
-use Rattle.cert.specs.Claim.{Recorded}
-use Rattle.ledger.specs.Versions.{ledger_line}
-use Rattle.ledger.specs.declared.format.Format.{Format}
-use Rattle.text.specs.Lines.{joined}
-use Rattle.wire.specs.Grammar.{frames_of}
-use Rattle.wire.specs.Message.{Message}
+-- What a node's answer says, and what holds of all answers.
+use Rattle.std.specs.Prelude.{◌≡◌, ℕ, List, [], Option, Some, None, map, IsSome, Contains, option_map, Ok}
+use Rattle.cert.specs.Terms.{Recorded}
+use Rattle.ledger.specs.Terms.{ledger_line, Contents, mark_in, claim_in}
+use Rattle.ledger.specs.declared.header.Format.{Format}
+use Rattle.text.specs.Terms.{joined}
+use Rattle.wire.specs.Terms.{frames_of, Message, Ack, message_of, Grant, Happening, Came, Ticked, Worked}
 use Rattle.wire.specs.declared.node.Note.{Note}
 use Rattle.wire.specs.declared.node.Note.TheVariants.{Refused}
 use Rattle.wire.specs.declared.node.Out.{Out}
+use Rattle.law_tree.specs.Terms.{IsComplete}
+use Rattle.machine_text.specs.Terms.{Packed}
+use Rattle.leases.specs.Terms.{Leased}
+
+-- What a node's answer says.
 
 -- the lines of records in a ledger of this version, each with its newline
 abbrev pub lines_of : Format → List Recorded → List ℕ
@@ -25,3 +29,36 @@ pub record Says (out : Out) (cut : Option ℕ) (appended : List ℕ) (sent : Lis
 abbrev pub NotesRefusal : Option ℕ → Out → Type 0
 NotesRefusal None out = ⊥
 NotesRefusal (Some number) out = Says out None [] [] (Refused number)
+
+-- Complete is final: a complete board stays as it is.
+abbrev pub IsCompleteBoard : Contents → Type 0
+IsCompleteBoard b = IsComplete b.root (mark_in b.records)
+
+-- a board that is complete before is there after, as it was
+abbrev pub KeepsComplete : Option Contents → Option Contents → Type 0
+KeepsComplete old new = (b : Contents) → old ≡ Some b → IsCompleteBoard b → new ≡ Some b
+
+-- What holds of all answers of coordinators.
+
+-- the table has a record on the board
+abbrev pub HasRecordOn : Option Contents → Packed → Type 0
+HasRecordOn None t = ⊥
+HasRecordOn (Some b) t = IsSome (claim_in b.records t)
+
+-- each table that is acknowledged, by whichever of the messages that are sent, has a record on the board
+abbrev pub AcknowledgesRecorded : Out → Option Contents → Type 0
+AcknowledgesRecorded out board =
+    (sent : List Message) × (out.frames.items ≡ frames_of sent)
+    × ((t : Packed) → Contains sent (Ack t) → HasRecordOn board t)
+
+-- The board of a coordinator, which stays as it is once it is complete.
+abbrev pub board_of : Option Leased → Option Contents
+board_of held = option_map (λ h. h.board) held
+
+-- What may end a complete board of a worker: a grant of another table.
+
+-- a frame came that is a grant
+abbrev pub IsGrant : Happening → Type 0
+IsGrant (Came frame) = (era : ℕ) × (number : ℕ) × (t : Packed) × (message_of frame ≡ Ok (Grant era number t))
+IsGrant (Ticked t) = ⊥
+IsGrant Worked = ⊥

@@ -1,22 +1,54 @@
--- What a start makes of a ledger's bytes, and of a reader that gives them.
-use Rattle.std.specs.Prelude.{◌≡◌, ◌≢◌, ◌⊎◌, ℕ, ◌==◌, if◌then◌else◌, List, [], ◌∷◌, ◌++◌, true, false, Option, Some, None, Result, Ok, Err}
-use Rattle.machine_text.specs.Packed.{Packed, empty_table}
-use Rattle.machine_text.specs.Text.{text_of}
-use Rattle.ledger.specs.Contents.{Contents}
-use Rattle.ledger.specs.Versions.{header_words}
-use Rattle.ledger.specs.declared.format.Format.TheVariants.{Two}
-use Rattle.ledger.specs.LedgerText.{HasHeader, HasNoHeader, IsLedgerOf, IsTornHeader, LoadGives}
-use Rattle.ledger.specs.Reading.{IsRead, IsAllRead, IsBrokenOff}
-use Rattle.ledger.specs.declared.left.Left.{Left}
-use Rattle.wire.specs.Fulfilled.{text_after}
+-- What a start makes of a ledger's bytes, and why a node does not start.
+use Rattle.std.specs.Prelude.{ℕ, List, length, Option, Some, None, codes, ◌≡◌, ◌≢◌, ◌⊎◌, ◌==◌, if◌then◌else◌, [], ◌∷◌, ◌++◌, true, false, Result, Ok, Err}
+use Rattle.ledger.specs.declared.loading.Left.{Left}
+use Rattle.ledger.specs.declared.loading.Left.TheVariants.{Nothing, From}
+use Rattle.ledger.specs.declared.faults.LoadFault.{LoadFault}
+use Rattle.ledger.specs.declared.faults.LoadFault.TheVariants.{BadHeader as BadLedgerHeader, WrongRoot as OtherRoot, NoMemory as NoLedgerMemory}
+use Rattle.ledger.specs.declared.loading.ReadStop.{ReadStop}
+use Rattle.ledger.specs.declared.loading.ReadStop.TheVariants.{Failed, NoMemory as NoReadMemory}
+use Rattle.lease_core.specs.declared.starting.StartFault.{StartFault}
+use Rattle.lease_core.specs.declared.starting.StartFault.TheVariants.{BadHeader, WrongRoot, LedgerFault, NoMemory}
+use Rattle.machine_text.specs.Terms.{Packed, empty_table, text_of}
+use Rattle.ledger.specs.Terms.{Contents, header_words, HasHeader, HasNoHeader, IsLedgerOf, IsTornHeader, LoadGives, IsRead, IsAllRead, IsBrokenOff}
+use Rattle.ledger.specs.declared.header.Format.TheVariants.{Two}
+use Rattle.wire.specs.Terms.{text_after}
 use Rattle.wire.specs.declared.node.Note.TheVariants.{Quiet}
 use Rattle.wire.specs.declared.node.Out.{Out}
-use Rattle.leases.specs.Leases.{Leased, no_leases}
-use Rattle.lease_core.specs.Kept.{kept_bytes, cut_of}
+use Rattle.leases.specs.Terms.{Leased, no_leases}
 use Rattle.lease_core.specs.CoordinatorRules.{Coordinating}
-use Rattle.lease_core.specs.declared.start_fault.StartFault.{StartFault}
-use Rattle.lease_core.specs.declared.start_fault.StartFault.TheVariants.{BadHeader, WrongRoot, LedgerFault, NoMemory}
 
+-- How many of a ledger's bytes are kept, and to how many it is cut, which it is where not all are kept.
+abbrev pub kept_bytes : List ℕ → Left → ℕ
+kept_bytes text Nothing = length text
+kept_bytes text (From line kept why) = kept
+
+abbrev pub cut_of : Left → Option ℕ
+cut_of Nothing = None
+cut_of (From line kept why) = Some kept
+
+-- The refusal number of each fault of a start, the sentence that says it, and the fault that a ledger or its reader brings.
+abbrev pub start_fault_number : StartFault → Option ℕ
+start_fault_number BadHeader = Some 404
+start_fault_number WrongRoot = Some 405
+start_fault_number LedgerFault = Some 604
+start_fault_number NoMemory = None
+
+abbrev pub start_fault_text : StartFault → List ℕ
+start_fault_text BadHeader = codes "the ledger has no header with a table"
+start_fault_text WrongRoot = codes "the ledger is of another root"
+start_fault_text LedgerFault = codes "the ledger can't be read"
+start_fault_text NoMemory = codes "out of memory"
+
+abbrev pub start_fault_of : LoadFault → StartFault
+start_fault_of BadLedgerHeader = BadHeader
+start_fault_of OtherRoot = WrongRoot
+start_fault_of NoLedgerMemory = NoMemory
+
+abbrev pub start_fault_of_stop : ReadStop → StartFault
+start_fault_of_stop (Failed fault) = LedgerFault
+start_fault_of_stop NoReadMemory = NoMemory
+
+-- What a start makes of a ledger's bytes, and of a reader that gives them.
 abbrev pub header_line : Packed → List ℕ
 header_line root = header_words Two ++ text_of root ++ (10 ∷ [])
 

@@ -4,27 +4,20 @@ use Rattle.std.specs.List.{list_any}
 use Rattle.std.specs.Ordering.{nat_cmp}
 use Rattle.std.specs.declared.cmp.Ordering.TheVariants.{Less}
 use Rattle.std.specs.Cmp.Lexicographic.{slice_cmp}
-use Rattle.machine_text.specs.Packed.{Packed, entry_of}
-use Rattle.machine_text.specs.Text.{text_of}
-use Rattle.law_tree.specs.Used.{InOrder}
-use Rattle.cert.specs.Claim.{Recorded}
-use Rattle.cert.specs.Scored.{with_score}
-use Rattle.ledger.specs.Contents.{Contents, IsBoard, IsOpenOn}
-use Rattle.ledger.specs.Held.{IsFit}
-use Rattle.ledger.specs.LedgerText.{ledger_text}
-use Rattle.ledger.specs.Records.{same_table}
+use Rattle.machine_text.specs.Terms.{Packed, entry_of, text_of}
+use Rattle.law_tree.specs.Terms.{InOrder}
+use Rattle.cert.specs.Terms.{Recorded, with_score}
+use Rattle.ledger.specs.Terms.{Contents, IsBoard, IsOpenOn, IsFit, same_table, ledger_text}
 use Rattle.wire.specs.declared.node.Out.{Out}
 use Rattle.wire.specs.declared.node.Note.{Note}
 use Rattle.wire.specs.declared.node.Note.TheVariants.{Quiet, Strange, Stale, Refused}
 use Rattle.wire.specs.declared.node.NodeFault.{NodeFault}
 use Rattle.wire.specs.declared.node.NodeFault.TheVariants.{Stopped, NoMemory}
-use Rattle.wire.specs.declared.message_fault.MsgFault.{MsgFault}
-use Rattle.wire.specs.Happening.{Happening, Came, Ticked, Worked}
-use Rattle.wire.specs.Message.{Message, Ask, Grant, Rec, Ack, Later, Done, Stop}
-use Rattle.wire.specs.Grammar.{message_of}
+use Rattle.wire.specs.declared.messages.MsgFault.{MsgFault}
+use Rattle.wire.specs.Terms.{Happening, Came, Ticked, Worked, Message, Ask, Grant, Rec, Ack, Later, Done, Stop, message_of}
 use Rattle.lease_core.specs.Limits.{work_record_limit, tick_record_limit}
 use Rattle.lease_core.specs.Says.{Says, lines_of}
-use Rattle.lease_core.specs.declared.lease_name.LeaseName.{LeaseName}
+use Rattle.lease_core.specs.declared.worker_answers.LeaseName.{LeaseName}
 use Rattle.lease_core.specs.WorkerState.{WorkerState, empty_board, with_record, HasRoot, IsRecordedOn, MayWork, records_on, with_table, unacknowledged}
 
 -- the first open table, in the order of texts: each other one comes after it

@@ -1,13 +1,11 @@
 // Workers.
 ghost use Rattle.std.specs.Prelude.{◌≡◌, IfOk, OnErr, option_map};
 
-use crate::kept::cut_of;
-use crate::lease_name::LeaseName;
-use crate::plain_answers::{noted, refused, sent};
-use crate::start_fault::StartFault;
-use crate::tidings::{Tidings, tidings_of};
-use crate::worker_answers::{asking, first_due, frames_due, ledger_of};
-use crate::worker_start::loaded;
+use crate::frames::{noted, refused, sent};
+use crate::starting::{StartFault, cut_of, loaded};
+use crate::worker_answers::{
+    LeaseName, Tidings, asking, first_due, frames_due, ledger_of, tidings_of,
+};
 use crate::worker_turns::{acknowledge, has_root, is_recorded, make, next_table};
 use cert::{Decided, Decider, Finder, Finders};
 use indexmap::IndexSet;
@@ -36,7 +34,7 @@ pub struct Worker<D> {
 
 impl<D> Model for Worker<D> {
     ghost use Rattle.lease_core.specs.WorkerState.{WorkerState, records_on};
-    ghost use Rattle.lease_core.specs.inside.Due.{AreFirstAcknowledged};
+    ghost use Rattle.lease_core.specs.inside.{AreFirstAcknowledged};
 
     ghost Value = { WorkerState D };
 
@@ -54,9 +52,8 @@ impl<D> Model for Worker<D> {
 }
 
 impl Worker<Finders<Box<dyn Finder>>> {
-    ghost use Rattle.wire.specs.Fulfilled.{text_after};
-    ghost use Rattle.lease_core.specs.WorkerState.{IsInStep};
-    ghost use Rattle.lease_core.specs.WorkerStart.{Starts};
+    ghost use Rattle.wire.specs.Terms.{text_after};
+    ghost use Rattle.lease_core.specs.WorkerState.{IsInStep, Starts};
 
     /// Starts a worker from the text of its ledger: with the board as which that reads, or without a board
     /// where it is empty or torn off within its header. What isn't kept of it is cut off.
@@ -81,9 +78,8 @@ impl Worker<Finders<Box<dyn Finder>>> {
 }
 
 impl<D: Drop> Worker<D> {
-    ghost use Rattle.wire.specs.Fulfilled.{text_after};
-    ghost use Rattle.lease_core.specs.WorkerState.{IsInStep};
-    ghost use Rattle.lease_core.specs.WorkerStart.{Starts, at_first};
+    ghost use Rattle.wire.specs.Terms.{text_after};
+    ghost use Rattle.lease_core.specs.WorkerState.{IsInStep, Starts, at_first};
     ghost use Rattle.std.specs.Prelude.{false};
 
     /// Starts as `start` does, with any decider, which is asked for each record that the worker makes.
@@ -148,19 +144,15 @@ impl<D: Drop> Worker<D> {
 }
 
 impl<D: Decider + Drop> Worker<D> {
-    ghost use Rattle.wire.specs.Grammar.{message_of};
-    ghost use Rattle.wire.specs.Happening.{seen};
-    ghost use Rattle.lease_core.specs.WorkerState.{MayWork};
-    ghost use Rattle.machine_text.specs.Packed.{entry_of};
-    ghost use Rattle.law_tree.specs.Used.{InOrder};
-    ghost use Rattle.ledger.specs.Records.{same_table};
+    ghost use Rattle.wire.specs.Terms.{message_of, frames_of, Rec, seen};
+    ghost use Rattle.lease_core.specs.WorkerState.{MayWork, HasRoot, IsRecordedOn, records_on, unacknowledged};
+    ghost use Rattle.machine_text.specs.Terms.{entry_of};
+    ghost use Rattle.law_tree.specs.Terms.{InOrder};
+    ghost use Rattle.ledger.specs.Terms.{same_table};
     ghost use Rattle.lease_core.specs.WorkerRules.{Answers, FrameRow, GrantRow, AckRow, TickRow, WorkRow, MayGrowFor, MayGrowAtTick, granted};
     ghost use Rattle.std.specs.List.{list_any};
     ghost use Rattle.std.specs.Prelude.{IsTrue, ◌↔◌, ◌≢◌, ℕ, [], false, map, take};
-    ghost use Rattle.wire.specs.Grammar.{frames_of};
-    ghost use Rattle.wire.specs.Message.{Rec};
     ghost use Rattle.lease_core.specs.Limits.{tick_record_limit};
-    ghost use Rattle.lease_core.specs.WorkerState.{HasRoot, IsRecordedOn, records_on, unacknowledged};
 
     // A frame came.
     fn on_frame(&mut self, frame: &[u8]) -> Result<Out, NoMemory>
@@ -332,8 +324,7 @@ impl<D: Decider + Drop> Node for Worker<D> {
     ghost use Rattle.std.specs.Prelude.{◌≡◌, true};
     ghost use Rattle.lease_core.specs.WorkerState.{IsInStep};
     ghost use Rattle.lease_core.specs.WorkerRules.{Answers};
-    ghost use Rattle.lease_core.specs.Finals.{KeepsComplete};
-    ghost use Rattle.lease_core.specs.WorkerFinals.{IsGrant};
+    ghost use Rattle.lease_core.specs.Says.{KeepsComplete, IsGrant};
 
     ghost is_stopped = { λ w. w.stopped ≡ true };
 

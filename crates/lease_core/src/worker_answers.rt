@@ -1,25 +1,73 @@
-// What a worker's answers are made of.
-ghost use Rattle.std.specs.Prelude.{◌≡◌, ◌≢◌, ◌++◌, ◌∷◌, [], IfOk, OnErr, OnOk, map, take};
-ghost use Rattle.cert.specs.Kinds.{recorded};
-ghost use Rattle.ledger.specs.LedgerText.{ledger_text};
-ghost use Rattle.wire.specs.Grammar.{frames_of};
-ghost use Rattle.wire.specs.Meaning.{said};
-ghost use Rattle.wire.specs.Message.{Ask as AskMessage, Done as DoneMessage, Rec as RecMessage};
+// What a frame tells a worker, what its answers are made of, and the laws of workers.
+ghost use Rattle.std.specs.Prelude.{Ok, ◌≡◌, ◌≢◌, ◌++◌, ◌∷◌, [], IfOk, OnErr, OnOk, map, take, Result};
+ghost use Rattle.wire.specs.Terms.{message_of, said, frames_of, Ask as AskMessage, Done as DoneMessage, Rec as RecMessage, Happening};
+ghost use Rattle.lease_core.specs.inside.{AreTidings, AreFirstAcknowledged};
+ghost use Rattle.cert.specs.Terms.{recorded};
+ghost use Rattle.ledger.specs.Terms.{ledger_text};
 ghost use Rattle.lease_core.specs.Limits.{tick_record_limit};
-ghost use Rattle.lease_core.specs.inside.Due.{AreFirstAcknowledged};
-ghost use Rattle.lease_core.specs.WorkerRules.{done_with};
-ghost use Rattle.lease_core.specs.WorkerState.{unacknowledged};
+ghost use Rattle.lease_core.specs.WorkerRules.{done_with, Answers, Row};
+ghost use Rattle.lease_core.specs.WorkerState.{unacknowledged, WorkerState, SendsOwn, Gains};
+ghost use Rattle.wire.specs.declared.node.NodeFault.{NodeFault as Failure};
+ghost use Rattle.wire.specs.declared.node.Out.{Out as Answer};
+ghost use Rattle.lease_core.specs.Says.{KeepsComplete, IsGrant};
 
-use crate::lease_name::LeaseName;
 use crate::limits::MAX_TICK_RECORDS;
-use cert::Record;
+use cert::{Decider, Record};
 use indexmap::IndexSet;
 use kind_evidence::NoMemory;
 use ledger::Board;
 use machine_text::Table;
 use std::alloc::Global;
 use text::append_number;
-use wire::{Msg, encode};
+use wire::{Msg, decode, encode};
+
+/// The name of a lease as a grant gives it.
+#[derive(Clone, Copy, Debug, PartialEq, Eq)]
+pub struct LeaseName {
+    /// The coordinator's era.
+    pub era: u64,
+    /// The number of the lease.
+    pub number: u64,
+}
+
+// What a frame tells a worker, without the frame.
+#[derive(Clone, Copy)]
+pub(crate) enum Tidings {
+    Granted(LeaseName, Table),
+    Acknowledged(Table),
+    Later,
+    Stop,
+    // nothing that is for a worker
+    Strange,
+}
+
+pub(crate) fn tidings_of(frame: &[u8]) -> Tidings
+    ensures { AreTidings (message_of frame.now) result }
+{
+    let message = decode(frame);
+    match &message {
+        Ok(m) => tidings_by(m),
+        Err(_) => Tidings::Strange,
+    }
+}
+
+fn tidings_by(m: &Msg<'_>) -> Tidings
+    ensures { AreTidings (Ok (said m.now)) result }
+{
+    match m {
+        Msg::Grant { era, lease, table } => {
+            let name = LeaseName {
+                era: *era,
+                number: *lease,
+            };
+            Tidings::Granted(name, *table)
+        }
+        Msg::Ack(table) => Tidings::Acknowledged(*table),
+        Msg::Later(_) => Tidings::Later,
+        Msg::Stop => Tidings::Stop,
+        Msg::Ask { .. } | Msg::Rec(_) | Msg::Done { .. } => Tidings::Strange,
+    }
+}
 
 // The ledger of a board.
 pub(crate) fn ledger_of(alloc: Global, board: &Board) -> Result<Vec<u8>, NoMemory>
@@ -38,7 +86,7 @@ pub(crate) fn send(m: &Msg<'_>, frames: &mut Vec<u8>) -> Result<(), NoMemory>
 }
 
 // The frame of a record, written where it is lent: the borrow checker's proof covers no copy of it in a message.
-#[tactic(auto, unfolding(wire::specs::Grammar::message_text))]
+#[tactic(auto, unfolding(wire::specs::Message::message_text))]
 pub(crate) fn frame_of(alloc: Global, r: &Record) -> Result<Vec<u8>, NoMemory>
     ensures { IfOk result (λ frames. frames.items ≡ frames_of (RecMessage (recorded r.now) ∷ [])) }
 {
@@ -106,7 +154,7 @@ pub(crate) fn asking(alloc: Global, lease: Option<LeaseName>, id: u32) -> Result
     Ok(frames)
 }
 
-#[tactic(auto, unfolding(wire::specs::Grammar::message_text))]
+#[tactic(auto, unfolding(wire::specs::Message::message_text))]
 fn send_done(name: LeaseName, frames: &mut Vec<u8>) -> Result<(), NoMemory>
     ensures { OnOk result (frames.new.items ≡ frames.old.items ++ frames_of (DoneMessage name.era name.number ∷ [])) }
 {
@@ -117,7 +165,7 @@ fn send_done(name: LeaseName, frames: &mut Vec<u8>) -> Result<(), NoMemory>
     frames.extend_from_slice(b"\n")
 }
 
-#[tactic(auto, unfolding(wire::specs::Grammar::message_text))]
+#[tactic(auto, unfolding(wire::specs::Message::message_text))]
 fn send_ask(id: u32, frames: &mut Vec<u8>) -> Result<(), NoMemory>
     ensures { OnOk result (frames.new.items ≡ frames.old.items ++ frames_of (AskMessage id ∷ [])) }
 {
@@ -125,3 +173,23 @@ fn send_ask(id: u32, frames: &mut Vec<u8>) -> Result<(), NoMemory>
     append_number(u64::from(id), frames)?;
     frames.extend_from_slice(b"\n")
 }
+
+/// Each record that a worker sends is a record of its board.
+pub fn workers_send_their_records<D: Decider>()
+    ensures { (old new : WorkerState D) (e : Happening) (out : Answer) → Row D.answers old e out new
+        → SendsOwn out new.board }
+{}
+
+/// A worker appends exactly the lines of the records that its board gains, or the header of a board that it
+/// begins.
+pub fn workers_append_what_they_gain<D: Decider>()
+    ensures { (old new : WorkerState D) (e : Happening) (out : Answer) → Row D.answers old e out new
+        → Gains old.board out new.board }
+{}
+
+/// Complete is final: whatever happens to a worker but a grant, a complete board stays as it is.
+pub fn complete_boards_of_workers_stay<D: Decider>()
+    ensures { (old new : WorkerState D) (e : Happening) (answer : Result Answer Failure)
+        → Answers D.answers old e answer new →
+        (IsGrant e → ⊥) → KeepsComplete old.board new.board }
+{}

@@ -1,12 +1,10 @@
 // What a worker does to its board, and asks of it.
 ghost use Rattle.std.specs.List.{list_any};
 ghost use Rattle.std.specs.Prelude.{◌≡◌, ◌<◌, ◌↔◌, ℕ, false, IsTrue, Some, IfSome, IfNone, IfOk, OnOk, OnErr, length};
-ghost use Rattle.cert.specs.Certified.{IsShownBy};
-ghost use Rattle.cert.specs.Kinds.{owned_recorded, recorded};
-ghost use Rattle.machine_text.specs.Packed.{entry_of};
-ghost use Rattle.law_tree.specs.Used.{InOrder};
-ghost use Rattle.ledger.specs.Held.{HasScore};
-ghost use Rattle.ledger.specs.Records.{same_table};
+ghost use Rattle.cert.specs.Terms.{IsShownBy, owned_recorded, recorded};
+ghost use Rattle.machine_text.specs.Terms.{entry_of};
+ghost use Rattle.law_tree.specs.Terms.{InOrder};
+ghost use Rattle.ledger.specs.Terms.{HasScore, same_table};
 ghost use Rattle.lease_core.specs.Limits.{work_record_limit};
 ghost use Rattle.lease_core.specs.WorkerState.{HasRoot, IsRecordedOn, MayWork, with_table};
 ghost use Rattle.lease_core.specs.WorkerRules.{IsFirstOpen, Makes};

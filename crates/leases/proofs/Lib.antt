@@ -1,12 +1,5 @@
 pub mod FreeLaws
-pub mod OfferLaws
-pub mod Members
 pub mod LiveLaws
-pub mod Due
-pub mod Ending
-pub mod Granting
-pub mod Asking
-pub mod ChildLaws
-pub mod Offering
 pub mod Moments
-pub mod Listing
+pub mod Granting
+pub mod Offering

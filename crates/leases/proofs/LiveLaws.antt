@@ -9,14 +9,12 @@ use Rattle.std.proofs.lemmas.List.Edits.{length-remove}
 use Rattle.std.proofs.lemmas.List.Kept.{AllPairs-filter}
 use Rattle.std.proofs.lemmas.List.Quantifiers.{all_pairs_push}
 use Rattle.std.proofs.lemmas.Option.{same_Some}
-use Rattle.ledger.proofs.Apart.{first_member, first_or_later, later_member}
-use Rattle.machine_text.specs.Packed.{Packed}
+use Rattle.ledger.proofs.HeldLaws.{first_member, first_or_later, later_member}
+use Rattle.machine_text.specs.Terms.{Packed}
 use Rattle.leases.specs.Limits.{child_limit}
 use Rattle.leases.specs.Leases.{is_live}
-use Rattle.leases.specs.inside.Stored.{StoredLease, as_lease, is_numbered, without, AreAmongFree, AreOfWorkers, HasLease, IsOwn, RiseByNumber, StandsAt}
-use Rattle.leases.specs.inside.Children.{HasRoomForChildren}
-use Rattle.leases.proofs.Members.{filter_member, found_live, in_filter, member_lives}
-use Rattle.leases.proofs.FreeLaws.{mapped, unmapped}
+use Rattle.leases.specs.inside.{StoredLease, as_lease, is_numbered, without, AreAmongFree, AreOfWorkers, HasLease, IsOwn, RiseByNumber, StandsAt, HasRoomForChildren}
+use Rattle.leases.proofs.FreeLaws.{filter_member, found_live, in_filter, member_lives, mapped, unmapped}
 
 nobody : StoredLease
 nobody = record { number = 0; id = 0; renewed = 0; tables = []; room = 0 }

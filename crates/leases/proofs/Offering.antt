@@ -7,27 +7,17 @@ use Rattle.std.proofs.lemmas.List.{get_or-set_same, get_or-set_other, get_or-map
 use Rattle.std.proofs.Math.ListN.{set, length-set}
 use Rattle.std.proofs.lemmas.List.Elements.{All-head, All-tail, All-map, Contains-get_or}
 use Rattle.leases.specs.Limits.{lease_time}
-use Rattle.leases.specs.inside.Children.{shown, Renews}
-use Rattle.leases.proofs.FreeLaws.{mapped, unmapped}
-use Rattle.leases.proofs.Members.{member_lives}
+use Rattle.leases.specs.inside.{shown, Renews, StoredLease, as_lease, as_leases, AreStored}
+use Rattle.leases.proofs.FreeLaws.{mapped, unmapped, member_lives, Opens, KeepsAll}
 use Rattle.std.proofs.lemmas.Option.{same_Some}
-use Rattle.machine_text.specs.Packed.{Packed}
-use Rattle.law_tree.specs.Closed.{Holdout}
-use Rattle.law_tree.specs.Tables.{IsChildTable}
-use Rattle.cert.specs.Claim.{Recorded}
-use Rattle.ledger.specs.Contents.{Contents, IsOpenOn}
-use Rattle.ledger.specs.Records.{same_table, mark_in}
-use Rattle.ledger.specs.Held.{IsHoldout}
-use Rattle.ledger.specs.Offers.{OfferGives}
-use Rattle.ledger.specs.Tally.{IsHalting}
+use Rattle.machine_text.specs.Terms.{Packed}
+use Rattle.law_tree.specs.Terms.{Holdout, IsChildTable}
+use Rattle.cert.specs.Terms.{Recorded}
+use Rattle.ledger.specs.Terms.{Contents, IsOpenOn, same_table, mark_in, IsHoldout, OfferGives, IsHalting}
 use Rattle.ledger.specs.declared.faults.OfferFault.{OfferFault}
 use Rattle.ledger.specs.declared.faults.OfferFault.TheVariants.{WrongSize, NotOpen, Refused, NoMemory}
-use Rattle.ledger.proofs.Same.{not_same, apart}
-use Rattle.leases.specs.Leases.{Lease, AreLeases, is_live, came_under, while_live}
-use Rattle.leases.specs.Offers.{renewed, TakesNew, TakesSettled}
-use Rattle.leases.specs.inside.Stored.{StoredLease, as_lease, as_leases, AreStored}
-use Rattle.leases.proofs.ChildLaws.{Opens}
-use Rattle.leases.proofs.OfferLaws.{KeepsAll}
+use Rattle.ledger.proofs.Claims.{not_same, apart}
+use Rattle.leases.specs.Leases.{Lease, AreLeases, is_live, came_under, while_live, renewed, TakesNew, TakesSettled}
 
 -- a table was taken out of those that came under a lease
 abbrev pub GoesOut : List (Packed × ℕ) → Packed → List (Packed × ℕ) → Type 0

@@ -1,5 +1,4 @@
 pub mod Limits
 pub mod Leases
-pub mod Asks
-pub mod Offers
 pub mod inside
+pub mod Terms

@@ -1,6 +1,6 @@
 -- The limits of leases.
 use Rattle.std.specs.Prelude.{ℕ, ◌*◌}
-use Rattle.machine_text.specs.Limits.{state_limit}
+use Rattle.machine_text.specs.Terms.{state_limit}
 
 -- so many leases live at most
 abbrev pub lease_limit : ℕ

@@ -1,23 +1,44 @@
-// The children of a table that was recorded, which became open.
-ghost use Rattle.std.specs.Prelude.{◌≡◌, ◌↔◌, ◌+◌, ◌≤◌, ℕ, Contains, IsSome, IfSome, length};
-ghost use Rattle.machine_text.specs.Packed.{Packed};
-ghost use Rattle.law_tree.specs.Tables.{IsChildTable};
-ghost use Rattle.ledger.specs.Tally.{AreAll, IsHalting};
-ghost use Rattle.std.specs.Prelude.{Some};
+// What leases ask of a board, and the children of a table that was recorded.
+ghost use Rattle.std.specs.Prelude.{◌≡◌, IfOk, Contains, ◌↔◌, IsTrue, false, ◌+◌, ◌≤◌, ℕ, IsSome, IfSome, length, Some};
+ghost use Rattle.machine_text.specs.Terms.{Packed};
+ghost use Rattle.ledger.specs.Terms.{IsOpenOn, AreAll, IsHalting};
+ghost use Rattle.law_tree.specs.Terms.{IsChildTable};
 ghost use Rattle.indexmap.specs.IndexMap.{spare};
 ghost use Rattle.indexmap.specs.IndexSet.{spare as spare_of};
-ghost use Rattle.ledger.specs.Contents.{IsOpenOn};
 ghost use Rattle.leases.specs.Leases.{came_under};
 ghost use Rattle.leases.specs.Limits.{child_limit};
-ghost use Rattle.leases.specs.inside.Children.{CameOnly, ComesUnder};
-ghost use Rattle.leases.specs.inside.Free.{ComesIn};
+ghost use Rattle.leases.specs.inside.{CameOnly, ComesUnder, ComesIn};
 
 use crate::free_tables::FreeTables;
 use indexmap::{IndexMap, IndexSet};
+use kind_evidence::NoMemory;
 use law_tree::children_listed;
 use ledger::Board;
 use machine_text::Table;
+use std::alloc::Global;
 use tnf::Children;
+
+// The open tables of a board.
+pub(crate) fn open_tables(alloc: Global, board: &Board) -> Result<FreeTables, NoMemory>
+    ensures { IfOk result (λ free. (t : Packed) → IsOpenOn board.now t → Contains free.tables t) }
+{
+    let mut free = FreeTables::new(alloc);
+    for t in board.open() {
+        free.push(*t)?;
+    }
+    Ok(free)
+}
+
+// Whether any table is open.
+pub(crate) fn has_open(board: &Board) -> bool
+    ensures some { IsTrue result → ((t : Packed) × IsOpenOn board.now t) }
+    ensures none { result ≡ false → (t : Packed) → IsOpenOn board.now t → ⊥ }
+{
+    match board.open().next() {
+        Some(_) => true,
+        None => false,
+    }
+}
 
 // The children of a table that is recorded as halting.
 fn children_of(board: &Board, t: &Table) -> Option<Children>

@@ -1,14 +1,11 @@
 // A board, and the leases on its open tables.
 ghost use Rattle.std.specs.Prelude.{◌≡◌, ◌==◌, IfOk, OnOk, OnErr, max, true};
 
-use crate::board_calls::{has_open, open_tables};
-use crate::children::free_children;
-use crate::first_free::{first_free, lease_of};
-use crate::free_tables::FreeTables;
-use crate::held_leases::{HeldLease, only};
+use crate::children::{free_children, has_open, open_tables};
+use crate::free_tables::{FreeTables, first_free, lease_of};
+use crate::held_leases::{HeldLease, Reply, only};
 use crate::limits::{MAX_CHILDREN, may_grant};
 use crate::live_leases::LiveLeases;
-use crate::reply::Reply;
 use cert::Record;
 use indexmap::IndexMap;
 use kind_evidence::NoMemory;
@@ -35,8 +32,7 @@ pub struct LeasedBoard {
 
 impl Model for LeasedBoard {
     ghost use Rattle.leases.specs.Leases.{Leased, AreLeases};
-    ghost use Rattle.leases.specs.inside.Stored.{as_leases, AreStored};
-    ghost use Rattle.leases.specs.inside.Stored.{AreNotAhead};
+    ghost use Rattle.leases.specs.inside.{as_leases, AreStored, AreNotAhead};
 
     ghost Value = { Leased };
 
@@ -48,10 +44,8 @@ impl Model for LeasedBoard {
 
 impl LeasedBoard {
     ghost use Rattle.std.specs.Prelude.{Some, None};
-    ghost use Rattle.cert.specs.Kinds.{recorded};
-    ghost use Rattle.leases.specs.Offers.{LeasesAfter, OffersBoardLine};
-    ghost use Rattle.leases.specs.Asks.{Asks};
-    ghost use Rattle.leases.specs.Leases.{AreLeases, SomeEnds, no_leases, is_live, lease_of, ended, ticked, IsDone};
+    ghost use Rattle.cert.specs.Terms.{recorded};
+    ghost use Rattle.leases.specs.Leases.{LeasesAfter, OffersBoardLine, Asks, AreLeases, SomeEnds, no_leases, is_live, lease_of, ended, ticked, IsDone};
 
     /// A board without leases, at the moment 0. `NoMemory` where there is no room for its open tables.
     pub fn new(alloc: Global, board: Board) -> Result<LeasedBoard, NoMemory>

@@ -1,17 +1,15 @@
 // The live leases, each found by its number and by its worker.
 ghost use Rattle.std.specs.Prelude.{◌≡◌, ◌<◌, ◌≤◌, ◌∷◌, ◌++◌, [], All, Contains, IfNone, IfOk, IfSome, OnOk, OnErr, false, true, map, length, ℕ};
-ghost use Rattle.machine_text.specs.Packed.{Packed};
+ghost use Rattle.machine_text.specs.Terms.{Packed};
 ghost use Rattle.indexmap.specs.IndexMap.{spare};
 ghost use Rattle.leases.specs.Leases.{SomeEnds, is_live};
 ghost use Rattle.leases.specs.Limits.{child_limit};
-ghost use Rattle.leases.specs.inside.Stored.{stored_lease, as_lease, is_numbered, without, are_numbered, without_each, AreDue, AreAmongFree, AreNotAhead, IsOwn, StandsAt};
-ghost use Rattle.leases.specs.inside.Children.{Renews, RenewsOne, HasRoomForChildren, shown};
+ghost use Rattle.leases.specs.inside.{stored_lease, as_lease, is_numbered, without, are_numbered, without_each, AreDue, AreAmongFree, AreNotAhead, IsOwn, StandsAt, Renews, RenewsOne, HasRoomForChildren, shown};
 
 use crate::children::lease_children;
 use crate::free_tables::FreeTables;
-use crate::held_leases::{HeldLease, free_all, is_due};
+use crate::held_leases::{HeldLease, free_all, is_due, list_ended, place_of, take_out};
 use crate::limits::MAX_CHILDREN;
-use crate::places::{list_ended, place_of, take_out};
 use indexmap::IndexMap;
 use kind_evidence::NoMemory;
 use ledger::Board;
@@ -36,7 +34,7 @@ pub(crate) struct LiveLeases {
 impl Model for LiveLeases {
     ghost use Rattle.std.specs.Prelude.{List, map, nat_eq};
     ghost use Rattle.indexmap.specs.IndexMap.{get as number_of};
-    ghost use Rattle.leases.specs.inside.Stored.{StoredLease, stored_lease, AreNotBefore, AreOfWorkers, RiseByNumber};
+    ghost use Rattle.leases.specs.inside.{StoredLease, stored_lease, AreNotBefore, AreOfWorkers, RiseByNumber};
 
     ghost Value = { List StoredLease };
 

@@ -6,29 +6,22 @@ use Rattle.std.proofs.lemmas.List.Elements.{All-nil, Contains-append_left, Conta
 use Rattle.std.proofs.lemmas.List.{map-append}
 use Rattle.std.proofs.lemmas.List.Sums.{fold-append}
 use Rattle.std.proofs.lemmas.Option.{same_Some}
-use Rattle.machine_text.specs.Packed.{Packed, IsTable}
+use Rattle.machine_text.specs.Terms.{Packed, IsTable}
 use Rattle.kind_evidence.specs.declared.verdicts.Ending.{Ending}
 use Rattle.kind_evidence.specs.declared.verdicts.Ending.TheVariants.{Halts, Never}
-use Rattle.law_tree.specs.Closed.{Mark, Halting, NeverHalting, Holdout, IsVerdict, IsOpen}
-use Rattle.law_tree.specs.Tables.{IsChildTable}
+use Rattle.law_tree.specs.Terms.{Mark, Halting, NeverHalting, Holdout, IsVerdict, IsOpen, IsChildTable}
 use Rattle.law_tree.proofs.TableLaws.{tree_alike, tree_table_child}
-use Rattle.cert.specs.Claim.{Claim, Recorded, MayOverflow, ending_by}
-use Rattle.cert.specs.Certified.{IsCertified}
-use Rattle.cert.specs.Scored.{scored, with_score}
-use Rattle.cert.proofs.Scores.{score_certified, scored_ends}
-use Rattle.cert.proofs.Refusals.{refused_or_certified}
-use Rattle.ledger.specs.Records.{same_table, claim_in, mark_in, mark_of, mark_by}
-use Rattle.ledger.specs.Held.{HasScore, IsFit, IsHeld, Resolves, resolved}
+use Rattle.cert.specs.Terms.{Claim, Recorded, MayOverflow, ending_by, IsCertified, scored, with_score}
+use Rattle.cert.proofs.Claims.{score_certified, scored_ends, refused_or_certified}
+use Rattle.ledger.specs.Records.{same_table, claim_in, mark_in, mark_of, mark_by, HasScore, IsFit, IsHeld, Resolves, resolved}
 use Rattle.ledger.specs.Offers.{OfferGives, IsKnown}
 use Rattle.ledger.specs.Lists.{HasPlace, IsFitAfter, placed, held}
 use Rattle.ledger.specs.declared.faults.OfferFault.{OfferFault}
 use Rattle.ledger.specs.declared.faults.OfferFault.TheVariants.{WrongSize, NotOpen, Refused as IsRefused, NoMemory}
-use Rattle.ledger.proofs.Same.{same_is, apart}
-use Rattle.ledger.proofs.Claims.{claim_here, claim_past, claim_none, settled_here, settled_past}
-use Rattle.ledger.proofs.HeldLaws.{unmarked, held_more, held_settled, scored_has}
+use Rattle.ledger.proofs.Claims.{same_is, apart, claim_here, claim_past, claim_none, settled_here, settled_past}
+use Rattle.ledger.proofs.HeldLaws.{unmarked, held_more, held_settled, scored_has, first_member, first_or_later}
 use Rattle.ledger.proofs.OpenLaws.{IsTaken, taken_new, taken_settled, stopping_verdict, open_in_tree, recorded_in_tree}
-use Rattle.ledger.proofs.Taking.{holdout_claim}
-use Rattle.ledger.proofs.Apart.{first_member, first_or_later}
+use Rattle.ledger.proofs.BoardLaws.{holdout_claim}
 
 -- the records rs are those held of the fit records ks, and say of each table what these say with its score
 pub record Agree (root : Packed) (ks rs : List Recorded) : Type 0 where

@@ -1,30 +1,30 @@
--- The best of a complete board is that of its root.
-use Rattle.std.proofs.Common.{◌≡◌, ℕ, ◌≤◌, List, Option, Some, None, option_map, IfSome, ◌↔◌, refl, sym, ◌∙◌, ap, subst}
-use Rattle.machine_text.specs.Packed.{Packed, IsTable, entry_of, empty_table}
+-- The best of a complete board is that of its root; and the bounds of tables, by their trees' numbers.
+use Rattle.std.proofs.Common.{◌≡◌, ℕ, ◌≤◌, List, Option, Some, None, option_map, IfSome, ◌↔◌, refl, sym, ◌∙◌, ap, subst, IsSome, arith}
+use Rattle.machine_text.specs.Terms.{Packed, IsTable, entry_of, empty_table}
 use Rattle.machine_text.specs.declared.limits.TheConstants.{MAX_STATES}
-use Rattle.law_turing.specs.Halting.{HaltsAt, IsRado}
-use Rattle.law_turing.specs.Score.{HaltsWith, score_at}
-use Rattle.law_turing.proofs.Scores.{halts_with}
-use Rattle.kind_evidence.specs.Verdict.{IsTrueOf, ending_of}
+use Rattle.law_turing.specs.Terms.{HaltsAt, IsRado, HaltsWith, score_at}
+use Rattle.law_turing.proofs.RunLaws.{halts_with}
+use Rattle.kind_evidence.specs.Terms.{IsTrueOf, ending_of}
 use Rattle.kind_evidence.specs.declared.verdicts.Ending.{Ending}
 use Rattle.kind_evidence.specs.declared.verdicts.Verdict.{Verdict}
-use Rattle.kind_evidence.specs.declared.verdicts.Verdict.TheVariants.{Halts, Never}
-use Rattle.law_tree.specs.Used.{InOrder}
-use Rattle.law_tree.specs.Best.{Scores, IsGreatestOfAll}
-use Rattle.law_tree.specs.Closed.{Mark, Halting, NeverHalting, Holdout, IsTrueMark, AreTrueMarks, AreTrueScores, IsClosed, IsComplete, IsGreatestRecorded}
-use Rattle.law_tree.specs.Tables.{InTableTree, Itself, IsBestOfTable}
-use Rattle.cert.specs.Claim.{Claim, Recorded, Stands, shown_by}
-use Rattle.ledger.specs.Records.{claim_in, mark_in, mark_of, mark_by}
-use Rattle.ledger.specs.Contents.{Contents, IsBoard}
-use Rattle.ledger.specs.Sigma.{IsSigma}
+use Rattle.kind_evidence.specs.declared.verdicts.Verdict.TheVariants.{Halts, Never as NeverHalts}
+use Rattle.law_tree.specs.Terms.{InOrder, Scores, IsGreatestOfAll, Mark, Halting, NeverHalting, Holdout, IsTrueMark, AreTrueMarks, AreTrueScores, IsClosed, IsComplete, IsGreatestRecorded, InTableTree, Itself, IsBestOfTable, IsVerdict, IsOpen}
+use Rattle.cert.specs.Terms.{Claim, Recorded, Stands, shown_by}
+use Rattle.ledger.specs.Records.{claim_in, mark_in, mark_of, mark_by, Contents, IsBoard, IsSigma, IsHoldout}
 use Rattle.ledger.specs.Tally.{IsGreatestCount, IsGreatestOnes, IsStatus}
-use Rattle.ledger.specs.declared.status.Status.{Status}
-use Rattle.ledger.specs.declared.status.Status.TheVariants.{Complete}
-use Rattle.cert.proofs.Scores.{ends_as_shown}
+use Rattle.ledger.specs.declared.faults.Status.{Status}
+use Rattle.ledger.specs.declared.faults.Status.TheVariants.{Complete}
+use Rattle.cert.proofs.Claims.{ends_as_shown}
 use Rattle.ledger.proofs.HeldLaws.{held_stands}
 use Rattle.ledger.proofs.OpenLaws.{recorded_in_tree}
-use Rattle.ledger.proofs.Taking.{Below}
-use Rattle.ledger.proofs.BoardLaws.{OfTables, marked_in_tree}
+use Rattle.ledger.proofs.BoardLaws.{Below, OfTables, marked_in_tree, marked_in_order, none_of, KeepsOrder}
+use Rattle.ledger.specs.Offers.{IsBound}
+use Rattle.ledger.specs.inside.Trees.{IsTreeCount}
+use Rattle.ledger.specs.declared.tree_count.TreeCount.{TreeCount}
+use Rattle.ledger.specs.declared.counts.Bound.TheVariants.{Open, Closed}
+use Rattle.ledger.proofs.Amounts.{none_of_kind}
+
+-- The best of a complete board is that of its root.
 
 -- the laws of claims and trees that the code calls
 abbrev pub Claims : Type 0
@@ -52,7 +52,7 @@ CompleteIsSigma = (n s : ℕ) (marks : Packed → Option Mark) (scores : Packed 
 true_mark : (o : Option Verdict) (t : Packed) → IfSome o (λ (v : Verdict). IsTrueOf v (entry_of t)) → IsTrueMark t (Some (mark_by (option_map ending_of o)))
 true_mark None t h = tt
 true_mark (Some (Halts k s)) t h = h.halts
-true_mark (Some Never) t h = h
+true_mark (Some NeverHalts) t h = h
 
 pub true_marks : (b : Contents) → Below → OfTables → Claims → IsBoard b → AreTrueMarks (mark_in b.records)
 true_marks b below tables claims board = λ t. elim (claim_in b.records t) as (λ o. claim_in b.records t ≡ o → IsTrueMark t (option_map mark_of o)) [
@@ -139,3 +139,62 @@ complete_sigma b status n s best below tables claims sigma board stands some wit
     let all = (sigma n s (mark_in b.records) (scores_by (mark_in b.records)) some within marks (true_scores (mark_in b.records) marks) (subst (λ (p : Packed). IsComplete p (mark_in b.records)) root parts.0)).0
     (subst (λ (p : Packed). IsGreatestRecorded (λ (t : Packed) (k : ℕ). scores_by (mark_in b.records) t) (mark_in b.records) p (Some s)) root greatest) in
     record { champion = all.champion; is_machine = all.is_machine; scores = all.worth; greatest = all.greatest }
+
+-- The bound of a table, by the numbers of its tree.
+some_claim : (o : Option Claim) → IsSome o → (c : Claim) × (o ≡ Some c)
+some_claim None some = cc
+some_claim (Some c) some = (c, refl)
+
+-- a recorded table in whose tree nothing is open or a holdout is closed
+pub bound_settled : (root : Packed) (rs : List Recorded) (t : Packed) (n : TreeCount) → IsTreeCount root rs t n → IsSome (claim_in rs t) → n.open_count ≡ 0 → n.holdouts ≡ 0 → IsBound root rs t (Closed n.best n.ones)
+bound_settled root rs t n count recorded no_open no_holdouts =
+    let none_open = none_of (λ q. InTableTree t q × IsOpen root (mark_in rs) q) n.open_count count.open_count (omega (arith, no_open)) in
+    let none_held = none_of (λ q. InTableTree t q × IsHoldout rs q) n.holdouts count.holdouts (omega (arith, no_holdouts)) in
+    let c = some_claim (claim_in rs t) recorded in (
+      record {
+        verdict = verdict_of (mark_of c.0) (ap (option_map mark_of) c.1) none_held;
+        none_open = λ q inside is_open. none_open q (inside, is_open);
+        no_holdout = λ q inside holdout. none_held q (inside, holdout);
+      },
+      count.best,
+      count.ones,
+    )
+  where
+    verdict_of : (m : Mark) → mark_in rs t ≡ Some m → ((q : Packed) → InTableTree t q × IsHoldout rs q → ⊥) → IsVerdict (mark_in rs t)
+    verdict_of (Halting k) is none = subst IsVerdict (sym is) tt
+    verdict_of NeverHalting is none = subst IsVerdict (sym is) tt
+    verdict_of Holdout is none = absurd (none t (Itself, is))
+
+-- one in whose tree something is isn't
+pub bound_unsettled : (root : Packed) (rs : List Recorded) (t : Packed) (n : TreeCount) → IsTreeCount root rs t n → IsSome (claim_in rs t) → (((n.open_count ≡ 0) × (n.holdouts ≡ 0)) → ⊥) → IsBound root rs t Open
+bound_unsettled root rs t n count recorded some = (
+  λ elsewhere. let c = some_claim (claim_in rs t) recorded in let none = elsewhere.unrecorded in cc (c.1, none),
+  λ closed. some (
+    none_of_kind (λ q. InTableTree t q × IsOpen root (mark_in rs) q) n.open_count count.open_count (λ q h. closed.none_open q h.0 h.1),
+    none_of_kind (λ q. InTableTree t q × IsHoldout rs q) n.holdouts count.holdouts (λ q h. closed.no_holdout q h.0 h.1),
+  ),
+)
+
+-- one without a record is open, or nothing is known of it
+pub unrecorded : (o : Option Claim) → (IsSome o → ⊥) → o ≡ None
+unrecorded None h = refl
+unrecorded (Some c) h = absurd (h refl)
+
+some_mark : (o : Option Mark) → IsVerdict o → (m : Mark) × (o ≡ Some m)
+some_mark None verdict = absurd verdict
+some_mark (Some m) verdict = (m, refl)
+
+-- a closed table is recorded, so it is in order, and the greatest in its tree is its best
+pub closed_bound : (b : Contents) (t : Packed) (best ones : Option ℕ) → Below → KeepsOrder → ClosedIsBest → IsBoard b → IsTable t → AreTrueMarks (mark_in b.records) → IsBound b.root b.records t (Closed best ones)
+    → IsBestOfTable HaltsAt t best
+closed_bound b t best ones below keeps bests board is_table true_marks bound =
+    let marked = some_mark (mark_in b.records t) bound.0.verdict in
+    let in_order = marked_in_order b t marked.0 below keeps board marked.1 in
+    (bests b.root t in_order.0 (mark_in b.records) best true_marks is_table in_order.1 bound.0).1 bound.1
+
+pub closed_bound_ones : (b : Contents) (t : Packed) (best ones : Option ℕ) → Below → KeepsOrder → ClosedIsBestScore → IsBoard b → IsTable t → AreTrueMarks (mark_in b.records) → IsBound b.root b.records t (Closed best ones)
+    → IsBestOfTable Scores t ones
+closed_bound_ones b t best ones below keeps bests board is_table true_marks bound =
+    let marked = some_mark (mark_in b.records t) bound.0.verdict in
+    let in_order = marked_in_order b t marked.0 below keeps board marked.1 in
+    closed_ones b.root t in_order.0 (mark_in b.records) ones bests true_marks is_table in_order.1 bound.0 bound.2

@@ -1,26 +1,52 @@
--- A text that is loaded in pieces: what more of it does to the stage that it has come to.
-use Rattle.std.proofs.Common.{◌≡◌, ◌≢◌, ℕ, ◌+◌, ◌^◌, ◌<◌, ◌≤◌, Bool, true, false, cond, List, [], ◌∷◌, ◌++◌, length, Option, Some, None, is_some, ◌⊎◌, Ok, Err, inl, inr, refl, sym, ap, ◌∙◌, subst, arith, append_assoc, append-nil, length-append}
+-- What more of a text does to the stage that its loading has come to.
+use Rattle.std.proofs.Common.{◌≡◌, ◌≢◌, ℕ, ◌+◌, ◌≤◌, List, [], ◌∷◌, ◌++◌, length, Ok, refl, sym, ap, ◌∙◌, subst, arith, length-append, append_assoc, ◌^◌, ◌<◌, Bool, true, false, cond, Option, Some, None, is_some, ◌⊎◌, Err, inl, inr, append-nil}
 use Rattle.std.specs.Prelude.{MatchOption}
 use Rattle.std.proofs.lemmas.Bool.Decides.{leb_tells}
 use Rattle.std.proofs.lemmas.List.Elements.{All-append}
-use Rattle.machine_text.specs.Packed.{Packed}
-use Rattle.cert.specs.Claim.{Recorded}
-use Rattle.cert.specs.Grammar.{record_of}
-use Rattle.ledger.specs.Versions.{ledger_record, standing_record}
-use Rattle.ledger.specs.declared.format.Format.{Format}
-use Rattle.cert.specs.Limits.{record_byte_limit}
-use Rattle.cert.specs.declared.record_fault.RecordFault.TheVariants.{TooLong}
-use Rattle.text.specs.Lines.{joined, HasNoNewline, BeginsWithLine}
-use Rattle.ledger.specs.Contents.{Contents}
-use Rattle.ledger.specs.LedgerText.{HasHeader, IsTaken, AreTaken, LineGives, IsUnkeptLine, ReadsIn, LoadGives}
+use Rattle.machine_text.specs.Terms.{Packed}
+use Rattle.cert.specs.Terms.{Recorded, record_of, record_byte_limit}
+use Rattle.ledger.specs.LedgerText.{header_words, ledger_record, IsTaken, AreTaken, IsUnkeptLine, IsUnkept, HasHeader, standing_record, LineGives, ReadsIn, LoadGives}
+use Rattle.text.specs.Terms.{joined, HasNoNewline, BeginsWithLine}
+use Rattle.ledger.specs.declared.header.Format.{Format}
+use Rattle.ledger.specs.declared.loading.Unkept.{Unkept}
+use Rattle.ledger.specs.declared.loading.Unkept.TheVariants.{Torn, Unread, Unfit, Repeated}
+use Rattle.ledger.proofs.HeaderLaws.{words_length}
+use Rattle.cert.specs.declared.record.RecordFault.TheVariants.{TooLong}
+use Rattle.ledger.specs.Records.{Contents}
 use Rattle.ledger.specs.Loading.{record_start, IsAllTaken, IsLeftSo, IsBodyOf}
 use Rattle.ledger.specs.declared.body.Body.{Body}
-use Rattle.ledger.specs.declared.left.Left.{Left}
-use Rattle.ledger.specs.declared.left.Left.TheVariants.{Nothing, From}
-use Rattle.ledger.specs.declared.left.Unkept.{Unkept}
-use Rattle.ledger.specs.declared.left.Unkept.TheVariants.{Torn}
+use Rattle.ledger.specs.declared.loading.Left.{Left}
+use Rattle.ledger.specs.declared.loading.Left.TheVariants.{Nothing, From}
 use Rattle.ledger.specs.inside.Taking.{GoesBehind, LineTaken, BodyEnds, IsHeaded}
-use Rattle.ledger.proofs.LinesTaken.{taken_more, joined-append, behind_header, unkept}
+
+-- Lines that are taken one after another.
+
+-- one more line
+pub taken_more : (format : Format) (root : Packed) (old mid new : List Recorded) (lines : List (List ℕ)) (line : List ℕ) (r : Recorded) → AreTaken format root old lines mid
+    → HasNoNewline line → ledger_record format line ≡ Ok r → IsTaken root mid r new → AreTaken format root old (lines ++ (line ∷ [])) new
+taken_more format root old mid new [] line r taken one reads last = (r, new, one, reads, subst (λ (l : List Recorded). IsTaken root l r new) taken last, refl)
+taken_more format root old mid new (first ∷ lines) line r taken one reads last =
+    (taken.0, taken.1, taken.2, taken.3, taken.4, taken_more format root taken.1 mid new lines line r taken.5 one reads last)
+
+pub joined-append : (lines more : List (List ℕ)) → joined (lines ++ more) ≡ joined lines ++ joined more
+joined-append [] more = refl
+joined-append (line ∷ lines) more =
+    ap (λ (l : List ℕ). line ++ (10 ∷ l)) (joined-append lines more) ∙ sym (append_assoc line (10 ∷ joined lines) (joined more))
+
+-- why a line isn't kept is why nothing is kept of the text that begins with it
+pub unkept : (format : Format) (root : Packed) (rs : List Recorded) (rest line after : List ℕ) (why : Unkept) → BeginsWithLine rest line after → IsUnkeptLine format root rs line why
+    → IsUnkept format root rs rest why
+unkept format root rs rest line after Torn begins is = absurd is
+unkept format root rs rest line after (Unread f) begins is = (line, after, begins, is)
+unkept format root rs rest line after (Unfit f) begins is = (line, after, begins, is)
+unkept format root rs rest line after Repeated begins is = (line, after, begins, is)
+
+-- a header is longer than two bytes
+pub behind_header : (text : List ℕ) (root : Packed) (body : List ℕ) → HasHeader text root body → length body + 2 ≤ length text
+behind_header text root body header =
+    omega (arith, ap length header.line.is, length-append (header_words header.format ++ header.name) (10 ∷ body), length-append (header_words header.format) header.name, words_length header.format)
+
+-- A text that is loaded in pieces: what more of it does to the stage that it has come to.
 
 -- a text that begins with a line still does with more behind it
 pub longer_text : {text line rest : List ℕ} (more : List ℕ) → BeginsWithLine text line rest → BeginsWithLine (text ++ more) line (rest ++ more)
@@ -57,9 +83,6 @@ start_over line kept = elim (start_cases line) [ inl t ↦ let is = t.1 in absur
 
 pub start_within : (line : List ℕ) → length line ≤ record_byte_limit → Some line ≡ record_start line
 start_within line within = elim (start_cases line) [ inl t ↦ sym t.1 | inr t ↦ absurd (omega (arith, t.0)) ]
-
-pub start_past : (line : List ℕ) → record_byte_limit < length line → None ≡ record_start line
-start_past line past = elim (start_cases line) [ inl t ↦ absurd (omega (arith, t.0)) | inr t ↦ sym t.1 ]
 
 read_too_long : (line : List ℕ) → record_byte_limit < length line → record_of line ≡ Err TooLong
 unfolding record_of

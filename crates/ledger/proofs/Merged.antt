@@ -1,31 +1,23 @@
 -- What a board comes to that another's records are offered to.
 use Rattle.std.proofs.Common.{◌≡◌, ◌≢◌, ℕ, true, false, List, [], ◌∷◌, ◌++◌, Option, Some, None, option_map, ◌↔◌, ◌⊎◌, inl, inr, Result, Ok, Err, refl, sym, ◌∙◌, ap, subst, append_assoc, append-nil}
-use Rattle.machine_text.specs.Packed.{Packed, entry_of}
-use Rattle.law_turing.specs.Halting.{Never as NeverHalts}
+use Rattle.machine_text.specs.Terms.{Packed, entry_of}
+use Rattle.law_turing.specs.Terms.{Never as NeverHalts}
 use Rattle.kind_evidence.specs.declared.verdicts.Ending.{Ending}
 use Rattle.kind_evidence.specs.declared.verdicts.Ending.TheVariants.{Halts, Never}
-use Rattle.law_tree.specs.Closed.{Mark, Halting, NeverHalting, Holdout, IsTrueMark, AreTrueMarks, IsVerdict, IsOpen, IsComplete}
-use Rattle.cert.specs.Certified.{IsCertified}
-use Rattle.cert.specs.Claim.{Claim, Recorded, ending_by}
-use Rattle.cert.specs.Scored.{scored, with_score}
-use Rattle.cert.proofs.Scores.{scored_ends}
-use Rattle.ledger.specs.Records.{same_table, claim_in, mark_in, mark_of, mark_by, ending_in, ending_where}
-use Rattle.ledger.specs.Held.{IsFit, AreFitAfter}
+use Rattle.law_tree.specs.Terms.{Mark, Halting, NeverHalting, Holdout, IsTrueMark, AreTrueMarks, IsVerdict, IsOpen, IsComplete}
+use Rattle.cert.specs.Terms.{IsCertified, scored, with_score, Claim, Recorded, ending_by}
+use Rattle.cert.proofs.Claims.{scored_ends}
+use Rattle.ledger.specs.Records.{same_table, claim_in, mark_in, mark_of, mark_by, ending_in, ending_where, IsFit, AreFitAfter, Contents, IsBoard}
 use Rattle.ledger.specs.Offers.{IsKnown, OfferGives, IsRefusedOnly}
-use Rattle.ledger.specs.Contents.{Contents, IsBoard}
-use Rattle.ledger.specs.Merging.{AreTakenIn, IsMerged, MergeGives}
-use Rattle.ledger.specs.declared.taken.Taken.{Taken}
-use Rattle.ledger.specs.declared.taken.Taken.TheVariants.{New, Known, Settled}
+use Rattle.ledger.specs.Merging.{AreTakenIn, IsMerged}
+use Rattle.ledger.specs.declared.faults.Taken.{Taken}
+use Rattle.ledger.specs.declared.faults.Taken.TheVariants.{New, Known, Settled}
 use Rattle.ledger.specs.declared.faults.OfferFault.{OfferFault}
 use Rattle.ledger.specs.declared.faults.OfferFault.TheVariants.{WrongSize, NotOpen, Refused as IsRefused, NoMemory}
-use Rattle.ledger.specs.declared.faults.MergeFault.{MergeFault}
-use Rattle.ledger.specs.declared.faults.MergeFault.TheVariants.{WrongRoot, NoMemory as NoMergeMemory}
-use Rattle.ledger.proofs.Same.{same_is, same_itself, apart}
-use Rattle.ledger.proofs.Claims.{claim_here, claim_more, claim_none}
+use Rattle.ledger.proofs.Claims.{same_is, same_itself, apart, claim_here, claim_more, claim_none}
 use Rattle.ledger.proofs.HeldLaws.{unmarked, mark_kept}
 use Rattle.ledger.proofs.OpenLaws.{IsTaken, taken_new, recorded_in_tree}
-use Rattle.ledger.proofs.Taking.{Below, taken_last, taken_settling}
-use Rattle.ledger.proofs.BoardLaws.{OfTables}
+use Rattle.ledger.proofs.BoardLaws.{Below, taken_last, taken_settling, OfTables}
 
 -- what two marks of a table say together: the verdict of the first, or else the second
 abbrev pub joined : Option Mark → Option Mark → Option Mark
@@ -283,11 +275,6 @@ taken_is_final root old [] new complete taken = taken
 taken_is_final root old (r ∷ rs) new complete (answer, mid, gives, taken) =
     let same : mid ≡ old = offer_is_final root old mid r (Ok answer) complete gives in
     taken_is_final root mid rs new (subst (λ (l : List Recorded). IsComplete root (mark_in l)) (sym same) complete) taken ∙ same
-
-pub merge_is_final : (old other new : Contents) (answer : Result (Unit {0}) MergeFault) → IsComplete old.root (mark_in old.records) → MergeGives old other answer new → new.records ≡ old.records
-merge_is_final old other new (Ok done) complete gives = taken_is_final old.root old.records other.records new.records complete gives.1
-merge_is_final old other new (Err WrongRoot) complete gives = gives.1
-merge_is_final old other new (Err NoMergeMemory) complete gives = taken_is_final old.root old.records gives.1 new.records complete gives.4
 
 pub so_far_is_final : (root : Packed) (old all left cur : List Recorded) → MergedSoFar root old all left cur → IsComplete root (mark_in old) → cur ≡ old
 so_far_is_final root old all left cur so_far complete = taken_is_final root old so_far.start cur complete so_far.taken

@@ -5,20 +5,18 @@ use Rattle.std.specs.Option.{is_none}
 use Rattle.std.proofs.lemmas.Bool.{ltb-true, ltb-false}
 use Rattle.std.proofs.lemmas.Bool.Decides.{Decides-eqb}
 use Rattle.std.proofs.lemmas.List.{length-map}
-use Rattle.machine_text.specs.Packed.{Packed}
+use Rattle.machine_text.specs.Terms.{Packed}
 use Rattle.kind_evidence.specs.declared.verdicts.Ending.{Ending}
 use Rattle.kind_evidence.specs.declared.verdicts.Ending.TheVariants.{Halts, Never}
-use Rattle.law_tree.specs.Closed.{Mark, Halting, NeverHalting, Holdout}
-use Rattle.cert.specs.Claim.{Claim, Recorded, ending_by, score_by}
-use Rattle.ledger.specs.Records.{same_table, claim_in, mark_in, mark_of, mark_by}
-use Rattle.ledger.specs.Held.{IsHoldout, resolved}
+use Rattle.law_tree.specs.Terms.{Mark, Halting, NeverHalting, Holdout}
+use Rattle.cert.specs.Terms.{Claim, Recorded, ending_by, score_by}
+use Rattle.ledger.specs.Records.{same_table, claim_in, mark_in, mark_of, mark_by, IsHoldout, resolved}
 use Rattle.ledger.specs.inside.Counting.{is_undecided, is_halting, is_never, says_halts, says_never, is_champion, is_steps, steps_of, greater, IsCounted, with_shown, without_holdout}
 use Rattle.ledger.specs.Tally.{AreSoMany, HaltsAfter, IsHalting, IsNeverHalting, IsGreatestCount, IsGreatestOnes}
 use Rattle.ledger.proofs.OpenLaws.{IsTaken, stopping_verdict}
 use Rattle.ledger.specs.declared.counts.Counts.{Counts}
-use Rattle.ledger.proofs.Same.{same_is, apart}
-use Rattle.ledger.proofs.Claims.{claim_here, claim_past, claim_none, settled_here, settled_past}
-use Rattle.ledger.proofs.Apart.{AreApart, claim_member, member_claim, chosen_from, chosen, chosen_once}
+use Rattle.ledger.proofs.Claims.{same_is, apart, claim_here, claim_past, claim_none, settled_here, settled_past}
+use Rattle.ledger.proofs.HeldLaws.{AreApart, claim_member, member_claim, chosen_from, chosen, chosen_once}
 
 -- the tables of a kind, where those of the records that pass a test are of it
 pub kind_listed : (IsOfKind : Packed → Type 0) (p : Recorded → Bool) (rs : List Recorded)

@@ -1,25 +1,93 @@
--- The stages of a text that is loaded in pieces.
-use Rattle.std.proofs.Common.{◌≡◌, ◌≢◌, ℕ, ◌+◌, List, [], ◌∷◌, ◌++◌, length, take, Some, None, Ok, Err, inl, refl, sym, ap, ◌∙◌, subst, arith, append_assoc, append-nil, length-append, length-take-le, Result, IfErr}
+-- The stages of a text that is loaded in pieces, as they are read.
+use Rattle.std.proofs.Common.{◌≡◌, ℕ, ◌≤◌, ◌⊎◌, List, ◌++◌, length, take, inl, inr, refl, sym, ap, ◌∙◌, subst, arith, get_or, ◌≢◌, ◌+◌, [], ◌∷◌, Some, None, Ok, Err, append_assoc, append-nil, length-append, length-take-le, Result, IfErr, ◌<◌, Option}
+use Rattle.std.proofs.lemmas.List.{take-append-le, get_or_at, get_or_append_left}
+use Rattle.std.proofs.lemmas.Bool.{cases_lt}
 use Rattle.std.proofs.Math.Seq.{take-append-add}
-use Rattle.std.proofs.lemmas.List.{take-append-le}
-use Rattle.machine_text.specs.Packed.{Packed}
-use Rattle.text.specs.Lines.{HasNoNewline}
-use Rattle.ledger.specs.LedgerText.{BeginsAsHeader, IsTornHeader, IsTornLeft, HasNoHeader, LoadGives}
-use Rattle.ledger.specs.Loading.{NamesRoot, header_start, IsBodyOf, IsStageOf, Loading, StandsAfter, IsFed, IsStopped}
-use Rattle.ledger.specs.Contents.{Contents}
-use Rattle.ledger.specs.declared.format.Format.{Format}
-use Rattle.ledger.specs.declared.format.Format.TheVariants.{Two}
-use Rattle.ledger.specs.declared.left.Left.{Left}
+use Rattle.std.proofs.KnownBytes.{Consumes-nil, Consumes-trans}
+use Rattle.std.specs.Io.KnownBytes.{Consumes}
+use Rattle.text.specs.Terms.{HasNoNewline, BeginsWithLine}
+use Rattle.text.proofs.Cuts.{cases_line, line_has_newline}
+use Rattle.ledger.specs.LedgerText.{BeginsAsHeader, IsTornHeader, HasNoHeader, IsTornLeft, LoadGives}
+use Rattle.ledger.specs.Loading.{header_start, NamesRoot, IsBodyOf, IsStageOf, Loading, StandsAfter, IsFed, IsStopped}
+use Rattle.ledger.proofs.HeaderLaws.{header_limit, header_short, begun_whole, begun_start, none_begun, none_named, is_named, start_more, named_whole, named_start, torn_left}
+use Rattle.ledger.proofs.Feeding.{longer_text, headed_more, no_newline_more, line_ends, is_all_taken, start_within}
+use Rattle.machine_text.specs.Terms.{Packed}
+use Rattle.ledger.specs.Records.{Contents}
+use Rattle.ledger.specs.declared.header.Format.{Format}
+use Rattle.ledger.specs.declared.header.Format.TheVariants.{Two}
+use Rattle.ledger.specs.declared.loading.Left.{Left}
 use Rattle.ledger.specs.declared.faults.LoadFault.{LoadFault}
 use Rattle.ledger.specs.declared.faults.LoadFault.TheVariants.{BadHeader, WrongRoot}
 use Rattle.ledger.specs.declared.body.Body.{Body}
-use Rattle.ledger.specs.declared.stage.Stage.{Stage}
-use Rattle.ledger.specs.declared.stage.Stage.TheVariants.{Header, Records, Refused}
-use Rattle.ledger.specs.declared.feed_stop.FeedStop.{FeedStop}
+use Rattle.ledger.specs.declared.loading.Stage.{Stage}
+use Rattle.ledger.specs.declared.loading.Stage.TheVariants.{Header, Records, Refused}
+use Rattle.ledger.specs.declared.loading.FeedStop.{FeedStop}
 use Rattle.ledger.specs.inside.Taking.{IsHeaded, BodyStops, StageStops}
-use Rattle.ledger.proofs.HeaderLaws.{none_begun, none_named, is_named}
-use Rattle.ledger.proofs.FirstLines.{start_more, named_whole, named_start, begun_whole, begun_start, torn_left}
-use Rattle.ledger.proofs.Feeding.{headed_more, no_newline_more, line_ends, is_all_taken, start_within}
+use Rattle.ledger.specs.Reading.{StopsReading}
+use Rattle.ledger.specs.declared.loading.ReadStop.TheVariants.{NoMemory}
+
+-- A text whose first bytes show that it has no header.
+
+-- a first line that is no header
+no_header_line : (first more line rest : List ℕ) → BeginsWithLine first line rest → HasNoHeader first → HasNoHeader (first ++ more)
+no_header_line first more line rest begins none =
+    none_named (first ++ more) line (rest ++ more) (longer_text more begins)
+    (λ format root named. none.none root rest (is_named first line rest begins format root named))
+
+-- a line behind bytes without a newline is no shorter than they are
+line_long : (first more line rest : List ℕ) → HasNoNewline first → BeginsWithLine (first ++ more) line rest → length first ≤ length line
+line_long first more line rest none begins = elim (cases_lt (length line) (length first)) [
+  | inl short ↦
+      let at : get_or first (length line) 0 ≡ 10 =
+      sym (get_or_append_left first more 0 (length line) short) ∙ (ap (λ (l : List ℕ). get_or l (length line) 0) begins.is ∙ get_or_at line 10 rest 0 (length line) refl) in
+      absurd (none (length line) 0 short at)
+  | inr long ↦ long
+]
+
+-- no text that begins so has a header: a newline is among the bytes, or they are too many
+abbrev pub IsBad : List ℕ → Type 0
+IsBad text = IsTornHeader text ⊎ HasNoHeader text
+
+module _ (first more : List ℕ) (none : HasNoNewline first) (long : 64 ≤ length first) where
+  same_start : header_start (first ++ more) ≡ header_start first
+  same_start = take-append-le 64 first more long
+
+  begun_behind : BeginsAsHeader first → BeginsAsHeader (first ++ more)
+  begun_behind begun = begun_whole (first ++ more) (subst BeginsAsHeader (sym same_start) (begun_start first begun))
+
+  begun_before : BeginsAsHeader (first ++ more) → BeginsAsHeader first
+  begun_before begun = begun_whole first (subst BeginsAsHeader same_start (begun_start (first ++ more) begun))
+
+  bad_without : HasNoNewline (first ++ more) → IsBad first → IsBad (first ++ more)
+  bad_without no_newline (inl torn) = inl (record { no_newline = no_newline; begun = begun_behind torn.begun })
+  bad_without no_newline (inr bad) = inr (none_begun (first ++ more) no_newline (λ begun. bad.whole (record { no_newline = none; begun = begun_before begun })))
+
+  bad_with : (line rest : List ℕ) → BeginsWithLine (first ++ more) line rest → IsBad (first ++ more)
+  bad_with line rest begins = inr (none_named (first ++ more) line rest begins (λ format root named.
+      let size : length line ≤ header_limit = header_short format line root named in
+      let reach : length first ≤ length line = line_long first more line rest none begins in
+      absurd (omega (arith, size, reach, long))))
+
+  bad_long : IsBad first → IsBad (first ++ more)
+  bad_long bad = elim (cases_line (first ++ more)) [
+    | inl no_newline ↦ bad_without no_newline bad
+    | inr w ↦ bad_with w.0 w.1 w.2
+  ]
+
+bad_line : (first more line rest : List ℕ) → BeginsWithLine first line rest → IsBad first → IsBad (first ++ more)
+bad_line first more line rest begins (inl torn) = absurd (line_has_newline begins torn.no_newline)
+bad_line first more line rest begins (inr bad) = inr (no_header_line first more line rest begins bad)
+
+pub bad_behind : (first more : List ℕ) → (HasNoNewline first → ⊥) ⊎ (64 ≤ length first) → IsBad first → IsBad (first ++ more)
+bad_behind first more enough bad = elim (cases_line first) [
+  | inr w ↦ bad_line first more w.0 w.1 w.2 bad
+  | inl none ↦ elim enough [
+    | inl some ↦ absurd (some none)
+    | inr long ↦ bad_long first more none long bad
+  ]
+]
+
+-- The stages of a text that is loaded in pieces.
 
 -- more bytes of the first line
 pub header_grows : (root : Packed) (text part start new : List ℕ) → HasNoNewline part → new ≡ take 64 (start ++ part) → IsStageOf root text (Header start)
@@ -190,3 +258,46 @@ records_stop root stage old new part taken same stops =
 pub if_err : {A E : Type 0} {P Q : E → Type 0} (r : Result A E) → ((e : E) → P e → Q e) → IfErr r P → IfErr r Q
 if_err (Ok x) weaker is = tt
 if_err (Err e) weaker is = weaker e is
+
+-- Pieces that are read from a reader and fed to a loader, one after another.
+
+-- nothing was fed yet
+fed_none : (l : Loading) → IsFed l [] l
+fed_none l = record {
+  root = refl;
+  bytes = omega arith;
+  stands = λ text stands. subst (λ (t : List ℕ). StandsAfter l t) (sym (append-nil text)) stands;
+}
+
+-- so much was read and fed, and so many bytes are left to read
+pub record IsGoingOn (old : Loading) (read : Option (List ℕ)) (limit : ℕ) (new : Loading) (new_read : Option (List ℕ)) (left : ℕ) : Type 0 where
+  pub text : List ℕ
+  pub consumed : Consumes read new_read text
+  pub fed : IsFed old text new
+  pub size : length text + left ≡ limit
+
+pub begins : (l : Loading) (read : Option (List ℕ)) (limit : ℕ) → IsGoingOn l read limit l read limit
+begins l read limit = record { text = []; consumed = Consumes-nil read; fed = fed_none l; size = omega arith }
+
+module _ (old : Loading) (read : Option (List ℕ)) (limit : ℕ) (mid : Loading) (mid_read : Option (List ℕ)) (left : ℕ) (going : IsGoingOn old read limit mid mid_read left) where
+  module _ (new : Loading) (new_read : Option (List ℕ)) (part : List ℕ) (more : Consumes mid_read new_read part) where
+    -- a piece is read and fed
+    pub goes_on : (after : ℕ) → IsFed mid part new → length part + after ≡ left → IsGoingOn old read limit new new_read after
+    goes_on after fed size = record {
+      text = going.text ++ part;
+      consumed = Consumes-trans read mid_read new_read going.text part going.consumed more;
+      fed = fed_more old mid new going.text part going.fed fed;
+      size = omega (arith, going.size, size, length-append going.text part);
+    }
+
+    -- or memory is refused for it
+    pub stops : (stop : FeedStop) → IsStopped mid part stop new → length part ≤ left → StopsReading old read limit NoMemory new new_read
+    stops stop stopped room = (
+      going.text ++ part,
+      record { taken = length going.text + stop.taken },
+      record {
+        consumed = Consumes-trans read mid_read new_read going.text part going.consumed more;
+        within = omega (arith, going.size, room, length-append going.text part);
+      },
+      stop_at old mid new (going.text ++ part) going.text part part [] stop (length going.text + stop.taken) refl (sym (append-nil part)) going.fed stopped refl,
+    )

@@ -1,30 +1,23 @@
 -- The numbers of a table's tree once a record is taken.
 use Rattle.std.proofs.Common.{true, false, ◌≡◌, ◌≢◌, ℕ, ◌+◌, ◌-◌, ◌<◌, ◌≤◌, ◌^◌, Option, Some, None, IsSome, option_map, List, inl, inr, ◌⊎◌, ◌↔◌, refl, sym, ◌∙◌, ap, subst, arith}
-use Rattle.machine_text.specs.Packed.{Packed, IsTable, entry_of}
-use Rattle.law_turing.specs.Score.{score_at}
+use Rattle.machine_text.specs.Terms.{Packed, IsTable, entry_of}
+use Rattle.law_turing.specs.Terms.{score_at}
 use Rattle.kind_evidence.specs.declared.verdicts.Ending.{Ending}
 use Rattle.kind_evidence.specs.declared.verdicts.Ending.TheVariants.{Halts, Never}
-use Rattle.law_tree.specs.Closed.{Mark, Halting, Holdout, IsOpen, IsGreatestRecorded}
-use Rattle.law_tree.specs.Tables.{IsChildTable, InTableTree, Itself, OfChild}
+use Rattle.law_tree.specs.Terms.{Mark, Halting, Holdout, IsOpen, IsGreatestRecorded, IsChildTable, InTableTree, Itself, OfChild}
 use Rattle.law_tree.proofs.TableLaws.{tree_alike, tree_table_child, one_table_parent}
-use Rattle.cert.specs.Certified.{IsCertified}
-use Rattle.cert.specs.Claim.{Claim, Recorded, ending_by, score_by}
-use Rattle.ledger.specs.Records.{same_table, claim_in, mark_in, mark_of, mark_by}
-use Rattle.ledger.specs.Held.{HasScore, IsHoldout}
+use Rattle.cert.specs.Terms.{IsCertified, Claim, Recorded, ending_by, score_by}
+use Rattle.ledger.specs.Records.{same_table, claim_in, mark_in, mark_of, mark_by, HasScore, IsHoldout}
 use Rattle.ledger.specs.Tally.{AreSoMany}
-use Rattle.ledger.specs.inside.Counting.{greater, steps_of}
-use Rattle.ledger.specs.inside.Open.{IsNewChild}
-use Rattle.ledger.specs.inside.Changing.{first_count, one_undecided, taking_change, resolving_change, changed_count, MayChange}
-use Rattle.ledger.specs.inside.Trees.{IsTreeCount}
+use Rattle.ledger.specs.inside.Counting.{greater, steps_of, IsNewChild}
+use Rattle.ledger.specs.inside.Trees.{first_count, one_undecided, taking_change, resolving_change, changed_count, MayChange, IsTreeCount}
 use Rattle.ledger.specs.declared.tree_count.TreeCount.{TreeCount}
-use Rattle.ledger.proofs.Amounts.{IsGreatestOf, no_more, many_same, many_both, many_less, none_many, one_many, greatest_more, greatest_same}
+use Rattle.ledger.proofs.Amounts.{IsGreatestOf, no_more, many_same, many_both, many_less, none_many, one_many, greatest_more, greatest_same, ones_after, ones_now, certified_small}
 use Rattle.ledger.proofs.Ancestors.{no_way_up, last_step, tree_twice}
 use Rattle.ledger.proofs.HeldLaws.{unmarked}
 use Rattle.ledger.proofs.Numbers.{halting_steps, halts_after}
-use Rattle.ledger.proofs.Ones.{ones_after, ones_now}
 use Rattle.ledger.proofs.OpenLaws.{IsTaken, open_taken}
-use Rattle.ledger.proofs.Same.{same_is, apart}
-use Rattle.ledger.proofs.SmallNumbers.{certified_small}
+use Rattle.ledger.proofs.Claims.{same_is, apart}
 
 -- the greatest number recorded in a tree, said of tables
 abbrev HaltsBelow : (Packed → Option Mark) → Packed → ℕ → Packed → Type 0

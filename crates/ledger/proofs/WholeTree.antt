@@ -4,32 +4,22 @@ use Rattle.std.specs.List.{Contains}
 use Rattle.std.specs.Ordering.{nat_cmp}
 use Rattle.std.specs.declared.cmp.Ordering.TheVariants.{Less}
 use Rattle.std.specs.Cmp.Lexicographic.{slice_cmp, nat_list_cmp_total}
-use Rattle.machine_text.specs.Packed.{Packed, entry_of}
-use Rattle.machine_text.specs.Text.{text_of}
-use Rattle.law_turing.specs.Machine.{Machine}
-use Rattle.law_turing.specs.Halting.{HaltsAt, Never}
-use Rattle.law_turing.specs.Score.{HaltsWith}
-use Rattle.law_turing.proofs.Scores.{halts_with, score_is}
-use Rattle.law_tree.specs.Best.{Scores}
-use Rattle.law_tree.specs.Closed.{Mark, Halting, NeverHalting, IsTrueMark, AreTrueMarks, IsVerdict, IsComplete}
-use Rattle.law_tree.specs.Tables.{InTableTree, IsGreatestInTables}
-use Rattle.law_tree.proofs.TableLaws.{tree_alike, tree_table_child}
-use Rattle.law_tree.proofs.ClosedLaws.{one_mark, closed_verdict, complete_closed}
-use Rattle.cert.proofs.TrueClaims.{standing_is_true}
-use Rattle.cert.specs.Claim.{Claim, Recorded}
-use Rattle.ledger.specs.Records.{claim_in, mark_in, mark_of}
-use Rattle.ledger.specs.Held.{IsHoldout}
-use Rattle.ledger.specs.Contents.{Contents, IsBoard}
-use Rattle.ledger.specs.Tally.{HaltsAfter, HasOnes, IsHalting, IsNeverHalting, IsGreatestCount, IsGreatestOnes, IsChampion, IsOnesChampion, IsTally, AreAll, AreSoMany, AreInTextOrder}
-use Rattle.ledger.specs.WholeTree.{IsTreeTally, IsTreeChampion, IsTreeOnesChampion}
-use Rattle.ledger.specs.declared.tally.Tally.{Tally}
+use Rattle.machine_text.specs.Terms.{Packed, entry_of, text_of}
+use Rattle.law_turing.specs.Terms.{Machine, HaltsAt, Never, HaltsWith}
+use Rattle.law_turing.proofs.RunLaws.{halts_with, score_is}
+use Rattle.law_tree.specs.Terms.{Scores, Mark, Halting, NeverHalting, IsTrueMark, AreTrueMarks, IsVerdict, IsComplete, InTableTree, IsGreatestInTables}
+use Rattle.law_tree.proofs.TableLaws.{tree_alike, tree_table_child, one_mark, closed_verdict, complete_closed}
+use Rattle.cert.proofs.Claims.{standing_is_true}
+use Rattle.cert.specs.Terms.{Claim, Recorded}
+use Rattle.ledger.specs.Records.{claim_in, mark_in, mark_of, IsHoldout, Contents, IsBoard}
+use Rattle.ledger.specs.Tally.{HaltsAfter, HasOnes, IsHalting, IsNeverHalting, IsGreatestCount, IsGreatestOnes, IsChampion, IsOnesChampion, IsTally, AreAll, AreSoMany, AreInTextOrder, IsTreeTally, IsTreeChampion, IsTreeOnesChampion}
+use Rattle.ledger.specs.declared.counts.Tally.{Tally}
 pub use Rattle.ledger.proofs.Amounts.{as_many}
 use Rattle.ledger.proofs.Amounts.{many_same, none_of_kind}
-use Rattle.ledger.proofs.Apart.{held_apart, first_or_later, later_member, first_member, claim_member, member_claim}
+use Rattle.ledger.proofs.HeldLaws.{held_apart, first_or_later, later_member, first_member, claim_member, member_claim}
 use Rattle.ledger.proofs.Numbers.{number_of_kind}
 use Rattle.ledger.proofs.OpenLaws.{recorded_in_tree}
-use Rattle.ledger.proofs.Sets.{nobody}
-use Rattle.ledger.proofs.TextOrder.{never_before_itself}
+use Rattle.ledger.proofs.Sets.{nobody, never_before_itself}
 use Rattle.ledger.proofs.BoardLaws.{OfTables, marked_in_tree}
 use Rattle.ledger.proofs.Completeness.{true_marks}
 

@@ -1,8 +1,8 @@
 -- The refusal number of each fault, which refused memory doesn't have, and the sentence that says it.
 use Rattle.std.specs.Prelude.{ℕ, List, Option, Some, None, codes}
 use Rattle.kind_evidence.specs.declared.verdicts.Refused.TheVariants.{Fails, TooLong, TooWide, NotSeen, NoMemory as WantsMemory}
-use Rattle.kind_evidence.specs.Verdict.{refused_number}
-use Rattle.cert.specs.Fault.{record_fault_text}
+use Rattle.kind_evidence.specs.Terms.{refused_number}
+use Rattle.cert.specs.Terms.{record_fault_text}
 use Rattle.ledger.specs.declared.faults.BoardFault.{BoardFault}
 use Rattle.ledger.specs.declared.faults.BoardFault.TheVariants.{NotInOrder, NoMemory as NoBoardMemory}
 use Rattle.ledger.specs.declared.faults.OfferFault.{OfferFault}
@@ -11,8 +11,8 @@ use Rattle.ledger.specs.declared.faults.LoadFault.{LoadFault}
 use Rattle.ledger.specs.declared.faults.LoadFault.TheVariants.{BadHeader, WrongRoot, NoMemory as NoLoadMemory}
 use Rattle.ledger.specs.declared.faults.MergeFault.{MergeFault}
 use Rattle.ledger.specs.declared.faults.MergeFault.TheVariants.{WrongRoot as OtherRoot, NoMemory as NoMergeMemory}
-use Rattle.ledger.specs.declared.left.Unkept.{Unkept}
-use Rattle.ledger.specs.declared.left.Unkept.TheVariants.{Torn, Unread, Unfit, Repeated}
+use Rattle.ledger.specs.declared.loading.Unkept.{Unkept}
+use Rattle.ledger.specs.declared.loading.Unkept.TheVariants.{Torn, Unread, Unfit, Repeated}
 
 abbrev pub board_fault_number : BoardFault → Option ℕ
 board_fault_number NotInOrder = Some 401

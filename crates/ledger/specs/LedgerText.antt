@@ -1,28 +1,64 @@
--- The text of a ledger: a header with its version and the root of its tree, then records, each on a line. A line ends
--- with a newline, the byte 10. A text is read as the records of its lines, up to the first that can't be taken.
-use Rattle.std.specs.Prelude.{◌≡◌, ◌≢◌, ℕ, ◌+◌, ◌⊎◌, List, [], ◌∷◌, ◌++◌, map, length, Option, Some, None, Result, Ok, Err}
-use Rattle.machine_text.specs.Packed.{Packed, entry_of}
-use Rattle.machine_text.specs.Text.{table_of, text_of}
-use Rattle.law_tree.specs.Used.{InOrder}
-use Rattle.cert.specs.Claim.{Recorded}
-use Rattle.cert.specs.Scored.{with_score}
-use Rattle.ledger.specs.Versions.{header_words, ledger_record, ledger_line}
-use Rattle.ledger.specs.Contents.{Contents}
-use Rattle.text.specs.Lines.{joined, HasNoNewline, BeginsWithLine}
-use Rattle.ledger.specs.Held.{IsFit, Resolves, resolved}
+-- The text of a ledger in each version: a header with the root of its tree, then records, each on a line.
+use Rattle.std.specs.Prelude.{ℕ, Bool, true, not, is_some, if◌then◌else◌, List, codes, Option, Some, None, Result, Ok, Err, ◌≡◌, ◌≢◌, ◌+◌, ◌⊎◌, [], ◌∷◌, ◌++◌, map, length}
+use Rattle.kind_evidence.specs.declared.verdicts.Ending.{Ending}
+use Rattle.kind_evidence.specs.declared.verdicts.Ending.TheVariants.{Halts, Never}
+use Rattle.cert.specs.Terms.{Recorded, ending_by, score_by, record_of, record_text, without_score, with_score}
+use Rattle.cert.specs.declared.record.RecordFault.{RecordFault}
+use Rattle.cert.specs.declared.record.RecordFault.TheVariants.{BadKind}
+use Rattle.ledger.specs.declared.header.Format.{Format}
+use Rattle.ledger.specs.declared.header.Format.TheVariants.{One, Two}
+use Rattle.machine_text.specs.Terms.{Packed, entry_of, table_of, text_of}
+use Rattle.law_tree.specs.Terms.{InOrder}
+use Rattle.ledger.specs.Records.{Contents, IsFit, Resolves, resolved}
+use Rattle.text.specs.Terms.{joined, HasNoNewline, BeginsWithLine}
 use Rattle.ledger.specs.Offers.{KeepsTree, OfferGives}
-use Rattle.ledger.specs.declared.format.Format.{Format}
-use Rattle.ledger.specs.declared.format.Format.TheVariants.{Two}
-use Rattle.ledger.specs.declared.taken.Taken.{Taken}
-use Rattle.ledger.specs.declared.taken.Taken.TheVariants.{New, Known, Settled}
+use Rattle.ledger.specs.declared.faults.Taken.{Taken}
+use Rattle.ledger.specs.declared.faults.Taken.TheVariants.{New, Known, Settled}
 use Rattle.ledger.specs.declared.faults.OfferFault.{OfferFault}
 use Rattle.ledger.specs.declared.faults.OfferFault.TheVariants.{NoMemory as OfferNoMemory}
-use Rattle.ledger.specs.declared.left.Left.{Left}
-use Rattle.ledger.specs.declared.left.Left.TheVariants.{Nothing, From}
-use Rattle.ledger.specs.declared.left.Unkept.{Unkept}
-use Rattle.ledger.specs.declared.left.Unkept.TheVariants.{Torn, Unread, Unfit, Repeated}
+use Rattle.ledger.specs.declared.loading.Left.{Left}
+use Rattle.ledger.specs.declared.loading.Left.TheVariants.{Nothing, From}
+use Rattle.ledger.specs.declared.loading.Unkept.{Unkept}
+use Rattle.ledger.specs.declared.loading.Unkept.TheVariants.{Torn, Unread, Unfit, Repeated}
 use Rattle.ledger.specs.declared.faults.LoadFault.{LoadFault}
 use Rattle.ledger.specs.declared.faults.LoadFault.TheVariants.{BadHeader, WrongRoot, NoMemory}
+
+-- The versions of a ledger's text. In version 1 a record that says that its table halts stands without its score, in
+-- version 2 with it.
+abbrev pub format_number : Format → ℕ
+format_number One = 1
+format_number Two = 2
+
+-- what a header begins with; the text of the root follows
+abbrev pub header_words : Format → List ℕ
+header_words One = codes "bb-ledger 1 "
+header_words Two = codes "bb-ledger 2 "
+
+-- whether a claim may stand on a line, by how the run ends by it and the score that it has
+abbrev pub may_stand : Format → Option Ending → Option ℕ → Bool
+may_stand One ends score = not (is_some score)
+may_stand Two (Some (Halts k)) score = is_some score
+may_stand Two (Some Never) score = true
+may_stand Two None score = true
+
+abbrev pub standing_record : Format → Result Recorded RecordFault → Result Recorded RecordFault
+standing_record f (Ok r) = if may_stand f (ending_by r.claim) (score_by r.claim) then Ok r else Err BadKind
+standing_record f (Err fault) = Err fault
+
+-- what a line of a ledger is read as: a record that may stand there
+unfoldable pub ledger_record : Format → List ℕ → Result Recorded RecordFault
+ledger_record f line = standing_record f (record_of line)
+
+-- a record that is held, as it stands on a line; and that line
+abbrev pub as_written : Format → Recorded → Recorded
+as_written One r = without_score r
+as_written Two r = r
+
+abbrev pub ledger_line : Format → Recorded → List ℕ
+ledger_line format r = record_text (as_written format r)
+
+-- The text of a ledger: a header with its version and the root of its tree, then records, each on a line. A line ends
+-- with a newline, the byte 10. A text is read as the records of its lines, up to the first that can't be taken.
 
 -- a beginning of these words, or more than them
 abbrev pub BeginsBy : List ℕ → List ℕ → Type 0

@@ -1,19 +1,20 @@
--- Lists of records, in order: which of them are fit in their turn, and what is held of them in the end.
+-- Lists of records, in order, and what is left of a ledger's text that is cut.
 use Rattle.std.specs.Prelude.{◌≡◌, ◌≢◌, ℕ, ◌⊎◌, if◌then◌else◌, List, [], ◌∷◌, ◌++◌, Contains, Some, None, Result, Ok, Err, fold, map}
-use Rattle.machine_text.specs.Packed.{Packed}
+use Rattle.machine_text.specs.Terms.{Packed}
 use Rattle.kind_evidence.specs.declared.verdicts.Ending.TheVariants.{Halts}
-use Rattle.law_tree.specs.Tables.{IsChildTable}
-use Rattle.cert.specs.Claim.{Recorded, MayOverflow, ending_by}
-use Rattle.cert.specs.Certified.{IsCertified}
-use Rattle.cert.specs.Scored.{with_score}
-use Rattle.ledger.specs.Versions.{ledger_record}
+use Rattle.law_tree.specs.Terms.{IsChildTable}
+use Rattle.cert.specs.Terms.{Recorded, MayOverflow, ending_by, IsCertified, with_score}
+use Rattle.ledger.specs.LedgerText.{ledger_record, ReadsAs}
 use Rattle.ledger.specs.Records.{same_table}
 use Rattle.ledger.specs.Offers.{OfferGives}
-use Rattle.text.specs.Lines.{HasNoNewline}
-use Rattle.ledger.specs.declared.format.Format.{Format}
-use Rattle.ledger.specs.declared.taken.Taken.{Taken}
+use Rattle.text.specs.Terms.{HasNoNewline, joined, BeginsWithLine}
+use Rattle.ledger.specs.declared.header.Format.{Format}
+use Rattle.ledger.specs.declared.faults.Taken.{Taken}
 use Rattle.ledger.specs.declared.faults.OfferFault.{OfferFault}
 use Rattle.ledger.specs.declared.faults.OfferFault.TheVariants.{NoMemory}
+use Rattle.ledger.specs.declared.loading.Left.{Left}
+
+-- Lists of records, in order: which of them are fit in their turn, and what is held of them in the end.
 
 -- the root, or a child of the table of an earlier record that says that it halts
 abbrev pub HasPlace : Packed → List Recorded → Packed → Type 0
@@ -73,3 +74,35 @@ AreFitLines format root earlier [] kept = kept ≡ earlier
 AreFitLines format root earlier (line ∷ lines) kept =
     (r : Recorded) × HasNoNewline line × (ledger_record format line ≡ Ok r) × IsFitAfter root earlier r
     × AreFitLines format root (earlier ++ (r ∷ [])) lines kept
+
+-- What is left of a ledger's text that is cut; and which lines of a text are kept.
+
+-- the text reads as the records of the first of these lines
+pub record ReadsAsFirst (root : Packed) (text : List ℕ) (lines : List (List ℕ)) : Type 0 where
+  pub rs : List Recorded
+  pub left : Left
+  pub reads : ReadsAs root text rs left
+  pub others : List (List ℕ)
+  pub first : lines ≡ reads.keeps.lines ++ others
+
+-- a text begins with a line that reads, in a version, as a record whose check may overflow
+pub record BeginsToOverflow (format : Format) (text : List ℕ) : Type 0 where
+  pub line : List ℕ
+  pub after : List ℕ
+  pub begins : BeginsWithLine text line after
+  pub r : Recorded
+  pub reads : ledger_record format line ≡ Ok r
+  pub may_overflow : MayOverflow r.claim r.table
+
+-- lines of a body are the longest list of whole lines of which each reads, in a version, as a record that is fit in its
+-- turn: any other such list is a beginning of it, unless the check of the record behind these may overflow. The records
+-- rs are those held of them
+pub record IsLongest (format : Format) (root : Packed) (body : List ℕ) (lines : List (List ℕ))
+    (rs : List Recorded) : Type 0 where
+  pub kept : List Recorded
+  pub fit : AreFitLines format root [] lines kept
+  pub records : rs ≡ held kept
+  pub longest : (others : List (List ℕ)) (rest : List ℕ) (fit_ones : List Recorded) → body ≡ joined others ++ rest
+      → AreFitLines format root [] others fit_ones
+      → ((more : List (List ℕ)) × (lines ≡ others ++ more))
+      ⊎ ((left : List ℕ) × (body ≡ joined lines ++ left) × BeginsToOverflow format left)

@@ -1,19 +1,17 @@
 -- A ledger's text that is loaded in pieces: what a loader holds of the text after which it stands.
 use Rattle.std.specs.Prelude.{◌≡◌, ◌≢◌, ℕ, ◌+◌, ◌≤◌, nat_le, if◌then◌else◌, List, [], ◌++◌, length, take, Option, Some, None, Err, Ok, MatchOption}
-use Rattle.machine_text.specs.Packed.{Packed}
-use Rattle.machine_text.specs.Text.{table_of}
-use Rattle.cert.specs.Limits.{record_byte_limit}
-use Rattle.text.specs.Lines.{joined, HasNoNewline}
+use Rattle.machine_text.specs.Terms.{Packed, table_of}
+use Rattle.cert.specs.Terms.{record_byte_limit}
+use Rattle.text.specs.Terms.{joined, HasNoNewline}
 use Rattle.ledger.specs.Limits.{header_byte_limit}
-use Rattle.ledger.specs.Versions.{header_words}
-use Rattle.ledger.specs.LedgerText.{HasHeader, AreTaken, ReadsIn, LoadGives}
-use Rattle.ledger.specs.declared.format.Format.{Format}
-use Rattle.ledger.specs.declared.left.Left.{Left}
+use Rattle.ledger.specs.LedgerText.{header_words, HasHeader, AreTaken, ReadsIn, LoadGives}
+use Rattle.ledger.specs.declared.header.Format.{Format}
+use Rattle.ledger.specs.declared.loading.Left.{Left}
 use Rattle.ledger.specs.declared.faults.LoadFault.TheVariants.{NoMemory}
 use Rattle.ledger.specs.declared.body.Body.{Body}
-use Rattle.ledger.specs.declared.stage.Stage.{Stage}
-use Rattle.ledger.specs.declared.stage.Stage.TheVariants.{Header, Records, Refused}
-use Rattle.ledger.specs.declared.feed_stop.FeedStop.{FeedStop}
+use Rattle.ledger.specs.declared.loading.Stage.{Stage}
+use Rattle.ledger.specs.declared.loading.Stage.TheVariants.{Header, Records, Refused}
+use Rattle.ledger.specs.declared.loading.FeedStop.{FeedStop}
 
 -- a line of these words and the text of a root
 pub record NamesAfter (words line : List ℕ) (root : Packed) : Type 0 where

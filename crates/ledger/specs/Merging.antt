@@ -1,13 +1,11 @@
 -- What two boards of one root come to together.
 use Rattle.std.specs.Prelude.{◌≡◌, ◌≢◌, ◌↔◌, ◌⊎◌, List, [], ◌∷◌, ◌++◌, Some, None, Result, Ok, Err}
-use Rattle.machine_text.specs.Packed.{Packed}
+use Rattle.machine_text.specs.Terms.{Packed}
 use Rattle.kind_evidence.specs.declared.verdicts.Ending.{Ending}
-use Rattle.cert.specs.Claim.{Recorded}
-use Rattle.ledger.specs.Records.{ending_in}
-use Rattle.ledger.specs.Held.{IsHoldout}
+use Rattle.cert.specs.Terms.{Recorded}
+use Rattle.ledger.specs.Records.{ending_in, IsHoldout, Contents}
 use Rattle.ledger.specs.Offers.{OfferGives}
-use Rattle.ledger.specs.Contents.{Contents}
-use Rattle.ledger.specs.declared.taken.Taken.{Taken}
+use Rattle.ledger.specs.declared.faults.Taken.{Taken}
 use Rattle.ledger.specs.declared.faults.MergeFault.{MergeFault}
 use Rattle.ledger.specs.declared.faults.MergeFault.TheVariants.{WrongRoot, NoMemory}
 

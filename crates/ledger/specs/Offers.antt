@@ -1,17 +1,18 @@
--- What an offered record does to the records held, and why it is refused.
+-- What an offered record does, and what a board says of the best of a table.
 use Rattle.std.specs.Prelude.{◌≡◌, ◌≢◌, ◌⊎◌, List, [], ◌∷◌, ◌++◌, None, Result, Ok, Err, IsSome}
-use Rattle.machine_text.specs.Packed.{Packed}
-use Rattle.law_tree.specs.Closed.{IsComplete, IsVerdict, IsOpen}
-use Rattle.cert.specs.Claim.{Recorded, ending_by}
-use Rattle.cert.specs.Certified.{IsUnfitBy}
-use Rattle.cert.specs.Scored.{with_score}
-use Rattle.ledger.specs.Contents.{Contents}
-use Rattle.ledger.specs.Records.{claim_in, mark_in}
-use Rattle.ledger.specs.Held.{IsFit, IsHoldout, Resolves, resolved}
-use Rattle.ledger.specs.declared.taken.Taken.{Taken}
-use Rattle.ledger.specs.declared.taken.Taken.TheVariants.{New, Known, Settled}
+use Rattle.machine_text.specs.Terms.{Packed, entry_of}
+use Rattle.law_tree.specs.Terms.{IsComplete, IsVerdict, IsOpen, IsClosed, IsGreatestRecorded}
+use Rattle.cert.specs.Terms.{Recorded, ending_by, IsUnfitBy, with_score}
+use Rattle.ledger.specs.Records.{Contents, claim_in, mark_in, IsFit, IsHoldout, Resolves, resolved}
+use Rattle.ledger.specs.declared.faults.Taken.{Taken}
+use Rattle.ledger.specs.declared.faults.Taken.TheVariants.{New, Known, Settled}
 use Rattle.ledger.specs.declared.faults.OfferFault.{OfferFault}
 use Rattle.ledger.specs.declared.faults.OfferFault.TheVariants.{WrongSize, NotOpen, Refused as IsRefused, NoMemory}
+use Rattle.law_turing.specs.Terms.{score_at}
+use Rattle.ledger.specs.declared.counts.Bound.{Bound}
+use Rattle.ledger.specs.declared.counts.Bound.TheVariants.{Unknown, Open, Closed}
+
+-- What an offered record does to the records held, and why it is refused.
 
 -- nothing new: the table has a verdict, or it is a holdout and no verdict is offered
 pub record IsKnown (rs : List Recorded) (r : Recorded) : Type 0 where
@@ -48,3 +49,14 @@ OfferGives root old r (Err WrongSize) new = (r.table.states ≢ root.states) × 
 OfferGives root old r (Err NotOpen) new = (r.table.states ≡ root.states) × IsElsewhere root old r.table × (new ≡ old)
 OfferGives root old r (Err (IsRefused f)) new = IsJudged root old r × IsUnfitBy f r × (new ≡ old)
 OfferGives root old r (Err NoMemory) new = IsJudged root old r × (new ≡ old)
+
+-- What a board says of the best of a table.
+
+-- the table is neither open nor recorded; it is, but it isn't closed; or it is closed, and these are the greatest number
+-- of steps and the greatest score recorded in its tree
+abbrev pub IsBound : Packed → List Recorded → Packed → Bound → Type 0
+IsBound root rs t Unknown = IsElsewhere root rs t
+IsBound root rs t Open = (IsElsewhere root rs t → ⊥) × (IsClosed root (mark_in rs) t → ⊥)
+IsBound root rs t (Closed best ones) =
+    IsClosed root (mark_in rs) t × IsGreatestRecorded (λ x k. k) (mark_in rs) t best
+    × IsGreatestRecorded (λ x k. score_at (entry_of x) k) (mark_in rs) t ones

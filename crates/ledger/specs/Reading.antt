@@ -2,9 +2,9 @@
 use Rattle.std.specs.Prelude.{◌≡◌, ◌⊎◌, ℕ, ◌<◌, ◌≤◌, List, length, Option}
 use Rattle.std.specs.Io.KnownBytes.{Consumes, IsAtEnd}
 use Rattle.ledger.specs.Loading.{Loading, IsFed, IsStopped}
-use Rattle.ledger.specs.declared.feed_stop.FeedStop.{FeedStop}
-use Rattle.ledger.specs.declared.reading.ReadStop.{ReadStop}
-use Rattle.ledger.specs.declared.reading.ReadStop.TheVariants.{Failed, NoMemory}
+use Rattle.ledger.specs.declared.loading.FeedStop.{FeedStop}
+use Rattle.ledger.specs.declared.loading.ReadStop.{ReadStop}
+use Rattle.ledger.specs.declared.loading.ReadStop.TheVariants.{Failed, NoMemory}
 
 -- the reader gave this text
 pub record IsRead (read : Option (List ℕ)) (limit : ℕ) (text : List ℕ) (new_read : Option (List ℕ)) : Type 0 where

@@ -1,18 +1,18 @@
--- Which tables are of a kind, how many they are, and how a board stands.
+-- Which tables are of a kind, and how many they are.
 use Rattle.std.specs.Prelude.{◌≡◌, ◌≢◌, ℕ, ◌+◌, ◌<◌, ◌≤◌, ◌↔◌, List, Contains, AllPairs, Option, Some, None, length}
 use Rattle.std.specs.Ordering.{nat_cmp}
 use Rattle.std.specs.declared.cmp.Ordering.TheVariants.{Less}
 use Rattle.std.specs.Cmp.Lexicographic.{slice_cmp}
-use Rattle.machine_text.specs.Packed.{Packed, entry_of}
-use Rattle.machine_text.specs.Text.{text_of}
-use Rattle.law_turing.specs.Score.{score_at}
-use Rattle.law_tree.specs.Closed.{Halting, NeverHalting, IsOpen, IsComplete}
-use Rattle.cert.specs.Claim.{Recorded}
-use Rattle.ledger.specs.Records.{mark_in}
-use Rattle.ledger.specs.Held.{IsHoldout}
-use Rattle.ledger.specs.declared.tally.Tally.{Tally}
-use Rattle.ledger.specs.declared.status.Status.{Status}
-use Rattle.ledger.specs.declared.status.Status.TheVariants.{Working, Holdouts, Complete}
+use Rattle.machine_text.specs.Terms.{Packed, entry_of, text_of}
+use Rattle.law_turing.specs.Terms.{score_at, HaltsAt, Never}
+use Rattle.law_tree.specs.Terms.{Halting, NeverHalting, IsOpen, IsComplete, Scores, InTableTree, IsGreatestInTables}
+use Rattle.cert.specs.Terms.{Recorded}
+use Rattle.ledger.specs.Records.{mark_in, IsHoldout}
+use Rattle.ledger.specs.declared.counts.Tally.{Tally}
+use Rattle.ledger.specs.declared.faults.Status.{Status}
+use Rattle.ledger.specs.declared.faults.Status.TheVariants.{Working, Holdouts, Complete}
+
+-- Which tables are of a kind, how many they are, and how a board stands.
 
 -- each text comes before the later ones, in the order of their bytes
 abbrev pub AreInTextOrder : List Packed → Type 0
@@ -80,3 +80,27 @@ IsStatus root rs (Working count) = (0 < count) × AreSoMany (IsOpen root (mark_i
 IsStatus root rs (Holdouts count) = ((t : Packed) → IsOpen root (mark_in rs) t → ⊥) × (0 < count)
     × AreSoMany (IsHoldout rs) count
 IsStatus root rs (Complete best ones) = IsComplete root (mark_in rs) × IsGreatestCount rs best × IsGreatestOnes rs ones
+
+-- How many tables the tree of a root has of each kind, and which of them halt last or with the most ones: what a complete
+-- board tells.
+
+-- the tables of the tree, those that halt, those that never do, the greatest number of steps and the greatest score;
+-- nothing is left open
+pub record IsTreeTally (root : Packed) (tally : Tally) : Type 0 where
+  pub nodes : AreSoMany (InTableTree root) tally.nodes
+  pub halting : AreSoMany (λ t. InTableTree root t × ((k : ℕ) × HaltsAt (entry_of t) k)) tally.halting
+  pub never : AreSoMany (λ t. InTableTree root t × Never (entry_of t)) tally.never
+  pub holdouts : tally.holdouts ≡ 0
+  pub open_count : tally.open_count ≡ 0
+  pub best : IsGreatestInTables HaltsAt root tally.best
+  pub ones : IsGreatestInTables Scores root tally.ones
+
+-- a table of the tree that halts after the greatest number of steps
+abbrev pub IsTreeChampion : Packed → Option ℕ → Packed → Type 0
+IsTreeChampion root None t = ⊥
+IsTreeChampion root (Some s) t = InTableTree root t × HaltsAt (entry_of t) s
+
+-- a table of the tree that halts with the greatest score
+abbrev pub IsTreeOnesChampion : Packed → Option ℕ → Packed → Type 0
+IsTreeOnesChampion root None t = ⊥
+IsTreeOnesChampion root (Some s) t = InTableTree root t × Scores (entry_of t) s

@@ -1,39 +1,30 @@
-// What a board holds.
+// Boards: the records of a tree's tables, and the tables that are open.
 ghost use Rattle.std.specs.Prelude.{◌≡◌, ℕ, IfSome, IfOk, Err, ◌↔◌, ◌≤◌, Option, Some, IsTrue, drop};
-ghost use Rattle.machine_text.specs.Limits.{state_limit};
-ghost use Rattle.machine_text.specs.Packed.{entry_of, empty_table};
-ghost use Rattle.law_tree.specs.Used.{InOrder};
-ghost use Rattle.kind_evidence.specs.Verdict.{IsTrueOf};
-ghost use Rattle.law_turing.specs.Halting.{IsRado, HaltsAt};
+ghost use Rattle.machine_text.specs.Terms.{state_limit, entry_of, empty_table};
+ghost use Rattle.law_tree.specs.Terms.{InOrder, Scores, IsBestOfTable, IsChildTable};
+ghost use Rattle.kind_evidence.specs.Terms.{IsTrueOf};
+ghost use Rattle.law_turing.specs.Terms.{IsRado, HaltsAt};
 ghost use Rattle.std.specs.Vec.Iter.{into_iter_items};
-ghost use Rattle.law_tree.specs.Best.{Scores};
-ghost use Rattle.law_tree.specs.Tables.{IsBestOfTable, IsChildTable};
-ghost use Rattle.ledger.specs.Versions.{format_number};
-ghost use Rattle.ledger.specs.Contents.{IsBoard};
-ghost use Rattle.ledger.specs.declared.format.Format.TheVariants.{Two};
-ghost use Rattle.ledger.specs.inside.Places.{IsFooting};
-ghost use Rattle.ledger.specs.Sigma.{IsSigma};
+ghost use Rattle.ledger.specs.LedgerText.{format_number};
+ghost use Rattle.ledger.specs.Records.{IsBoard, IsSigma};
+ghost use Rattle.ledger.specs.declared.header.Format.TheVariants.{Two};
+ghost use Rattle.ledger.specs.inside.Waiting.{IsFooting};
 ghost use Rattle.ledger.specs.Tally.{AreAll, IsChampion, IsGreatestCount, IsGreatestOnes, IsHalting, IsOnesChampion, IsStatus, IsTally};
 
-use crate::chain::change_chain;
-use crate::children::{child_count, children_on};
-use crate::counts::Counts;
-use crate::faults::{BoardFault, OfferFault};
-use crate::footing::{Footing, recorded_footing};
-use crate::format::Format;
-use crate::index::{certificate_for, pair_for, tree_count_of, verdict_in};
-use crate::open::Open;
-use crate::open_tables::{close, only, open_children, opener_place, opening_room};
-use crate::records::Records;
-use crate::selected::{
-    listed_tables, sorted_tables, tables_with, tables_with_ones, undecided_tables,
+use crate::counts::{Counts, Tally};
+use crate::faults::{BoardFault, OfferFault, Status, Taken};
+use crate::header::Format;
+use crate::open_tables::{
+    Open, child_count, children_on, close, only, open_children, opener_place, opening_room,
 };
-use crate::status::Status;
+use crate::places::{
+    Footing, Waiting, certificate_for, pair_for, recorded_footing, tree_count_of, verdict_in,
+};
+use crate::selected::{
+    Records, listed_tables, sorted_tables, tables_with, tables_with_ones, undecided_tables,
+};
 use crate::stored_record::{Judging, StoredRecord};
-use crate::taken::Taken;
-use crate::tally::Tally;
-use crate::tree_count::{TreeChange, TreeCount};
-use crate::waiting::Waiting;
+use crate::tree_count::{TreeChange, TreeCount, change_chain};
 use cert::{Record, standing_claims_are_true};
 use indexmap::IndexMap;
 use kind_evidence::{NoMemory, Verdict};
@@ -69,10 +60,9 @@ pub struct Board {
 impl Model for Board {
     ghost use Rattle.std.specs.List.{All};
     ghost use Rattle.ledger.specs.inside.Stored.{records_of, KnowsPair};
-    ghost use Rattle.ledger.specs.inside.Open.{IsOpenMapOf};
-    ghost use Rattle.ledger.specs.inside.Counting.{IsCounted};
+    ghost use Rattle.ledger.specs.inside.Counting.{IsOpenMapOf, IsCounted};
     ghost use Rattle.ledger.specs.inside.Trees.{IsIndexed};
-    ghost use Rattle.ledger.specs.Contents.{Contents, IsBoardOf};
+    ghost use Rattle.ledger.specs.Records.{Contents, IsBoardOf};
 
     ghost Value = { Contents };
 
@@ -87,16 +77,12 @@ impl Model for Board {
 
 impl Board {
     ghost use Rattle.std.specs.Prelude.{[], OnErr, IfErr, ◌⊎◌, IsSome};
-    ghost use Rattle.law_tree.specs.Closed.{IsOpen};
-    ghost use Rattle.cert.specs.Certified.{IsCertified};
-    ghost use Rattle.cert.specs.Kinds.{recorded};
-    ghost use Rattle.cert.specs.Scored.{with_score};
-    ghost use Rattle.ledger.specs.Records.{claim_in, mark_in, verdict_in};
-    ghost use Rattle.ledger.specs.Held.{IsHoldout};
+    ghost use Rattle.law_tree.specs.Terms.{IsOpen};
+    ghost use Rattle.cert.specs.Terms.{IsCertified, with_score, recorded};
+    ghost use Rattle.ledger.specs.Records.{claim_in, mark_in, verdict_in, IsHoldout};
     ghost use Rattle.ledger.specs.Offers.{KeepsTree, OfferGives, IsRefusedOnly};
-    ghost use Rattle.ledger.specs.inside.Open.{IsOpener};
-    ghost use Rattle.ledger.specs.inside.Places.{IsUnjudged, IsJudgedSo, IsWhyRefused};
-    ghost use Rattle.ledger.specs.inside.Waiting.{WaitsFor, TakesAs, put_by};
+    ghost use Rattle.ledger.specs.inside.Counting.{IsOpener};
+    ghost use Rattle.ledger.specs.inside.Waiting.{IsUnjudged, IsJudgedSo, IsWhyRefused, WaitsFor, TakesAs, put_by};
     ghost use Rattle.ledger.specs.inside.Trees.{IsTreeCount};
 
     /// A board of the tree of a root, without records, of version 2. The root must name its states in order.

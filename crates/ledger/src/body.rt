@@ -1,20 +1,17 @@
 // What stands behind the header of a text that is loaded in pieces.
 ghost use Rattle.std.specs.Prelude.{◌≡◌, ◌++◌, ℕ, List, [], None, Some, IfErr, IfOk, Ok, OnOk, OnErr, option_map};
-ghost use Rattle.machine_text.specs.Packed.{Packed};
-ghost use Rattle.cert.specs.Kinds.{read_as};
-ghost use Rattle.text.specs.Lines.{HasNoNewline};
-ghost use Rattle.ledger.specs.Versions.{ledger_record};
-ghost use Rattle.ledger.specs.LedgerText.{LineGives, LoadGives};
+ghost use Rattle.machine_text.specs.Terms.{Packed};
+ghost use Rattle.cert.specs.Terms.{read_as};
+ghost use Rattle.text.specs.Terms.{HasNoNewline};
+ghost use Rattle.ledger.specs.LedgerText.{ledger_record, LineGives, LoadGives};
 ghost use Rattle.ledger.specs.Loading.{IsBodyOf, record_start};
 ghost use Rattle.ledger.specs.inside.Taking.{BodyEnds, BodyGrows, BodyStops, GoesBehind, IsHeaded, LineTaken};
 
 use crate::board::Board;
-use crate::faults::OfferFault;
-use crate::feed_stop::FeedStop;
-use crate::format::Format;
-use crate::left::{Left, Unkept};
-use crate::line_start::LineStart;
-use crate::taken::Taken;
+use crate::faults::{OfferFault, Taken};
+use crate::header::Format;
+use crate::lines::LineStart;
+use crate::loading::{FeedStop, Left, Unkept};
 use cert::{Record, RecordFault};
 use kind_evidence::NoMemory;
 use std::alloc::Global;

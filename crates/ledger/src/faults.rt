@@ -1,4 +1,4 @@
-// Why calls of a board are refused.
+// Why calls of a board are refused, and what becomes of what isn't.
 ghost use Rattle.std.specs.Prelude.{◌≡◌};
 
 use kind_evidence::{NoMemory, Refused};
@@ -220,4 +220,36 @@ impl From<NoMemory> for LoadFault {
     fn from(_: NoMemory) -> LoadFault {
         LoadFault::NoMemory
     }
+}
+
+// How a board stands.
+/// How a board stands.
+#[derive(Clone, Copy, Debug, PartialEq, Eq)]
+pub enum Status {
+    /// So many tables are open.
+    Working {
+        count: u64,
+    },
+    /// No table is open, but so many are holdouts.
+    Holdouts {
+        count: u64,
+    },
+    /// No table is open and none is a holdout. The greatest number of steps recorded of a table that halts, and the
+    /// greatest score, or none where none does.
+    Complete {
+        best: Option<u64>,
+        ones: Option<u64>,
+    },
+}
+
+// What becomes of an offered record that isn't refused.
+/// What became of an offered record.
+#[derive(Clone, Copy, Debug, PartialEq, Eq)]
+pub enum Taken {
+    /// The table was open, and has the record now.
+    New,
+    /// The table had a verdict, or was a holdout for which no verdict was offered. Nothing changed.
+    Known,
+    /// The table was a holdout, and has a verdict now.
+    Settled,
 }

@@ -1,30 +1,23 @@
 // What is true of all ledgers: laws over the definitions, each the contract of a function without a body.
 ghost use Rattle.std.specs.Prelude.{◌≡◌, ◌↔◌, ◌⊎◌, ℕ, List, [], ◌∷◌, ◌++◌, take, Option, Some, Result, Ok, IsSome};
-ghost use Rattle.machine_text.specs.Packed.{Packed, IsTable, entry_of};
-ghost use Rattle.law_turing.specs.Halting.{HaltsAt, Never};
-ghost use Rattle.law_tree.specs.Best.{Scores};
-ghost use Rattle.law_tree.specs.Closed.{IsComplete};
-ghost use Rattle.law_tree.specs.Tables.{InTableTree};
+ghost use Rattle.machine_text.specs.Terms.{Packed, IsTable, entry_of};
+ghost use Rattle.law_turing.specs.Terms.{HaltsAt, Never};
+ghost use Rattle.law_tree.specs.Terms.{Scores, IsComplete, InTableTree};
 ghost use Rattle.kind_evidence.specs.declared.verdicts.Ending.TheVariants.{Halts};
-ghost use Rattle.cert.specs.Claim.{Recorded, ending_by};
-ghost use Rattle.cert.specs.Scored.{with_score};
-ghost use Rattle.ledger.specs.declared.left.Left.{Left as LeftOver};
-ghost use Rattle.ledger.specs.declared.left.Left.TheVariants.{Nothing, From};
-ghost use Rattle.ledger.specs.declared.left.Unkept.{Unkept as WhyUnkept};
-ghost use Rattle.ledger.specs.declared.taken.Taken.{Taken as Answer};
+ghost use Rattle.cert.specs.Terms.{Recorded, ending_by, with_score};
+ghost use Rattle.ledger.specs.declared.loading.Left.{Left as LeftOver};
+ghost use Rattle.ledger.specs.declared.loading.Left.TheVariants.{Nothing, From};
+ghost use Rattle.ledger.specs.declared.loading.Unkept.{Unkept as WhyUnkept};
+ghost use Rattle.ledger.specs.declared.faults.Taken.{Taken as Answer};
 ghost use Rattle.ledger.specs.declared.faults.OfferFault.{OfferFault as Fault};
 ghost use Rattle.ledger.specs.Offers.{OfferGives};
-ghost use Rattle.ledger.specs.Records.{claim_in, mark_in};
+ghost use Rattle.ledger.specs.Records.{claim_in, mark_in, Contents, IsBoard, IsBoardOf};
 ghost use Rattle.ledger.specs.Merging.{IsMerged};
-ghost use Rattle.ledger.specs.Tally.{AreAll, HaltsAfter, HasOnes, IsChampion, IsNeverHalting, IsOnesChampion, IsTally};
-ghost use Rattle.ledger.specs.WholeTree.{IsTreeTally, IsTreeChampion, IsTreeOnesChampion};
-ghost use Rattle.ledger.specs.declared.tally.Tally.{Tally as Counted};
-ghost use Rattle.ledger.specs.Contents.{Contents, IsBoard, IsBoardOf};
-ghost use Rattle.ledger.specs.Versions.{ledger_line, ledger_record};
-ghost use Rattle.ledger.specs.declared.format.Format.TheVariants.{One, Two};
-ghost use Rattle.ledger.specs.Lists.{AreKept, Offer, AreOffered, answered, held as held_of};
-ghost use Rattle.ledger.specs.LedgerText.{HasHeader, IsLedgerOf, IsTaken, ReadsAs, ReadsIn, ledger_text};
-ghost use Rattle.ledger.specs.LedgerLaws.{BeginsToOverflow, ReadsAsFirst, IsLongest};
+ghost use Rattle.ledger.specs.Tally.{AreAll, HaltsAfter, HasOnes, IsChampion, IsNeverHalting, IsOnesChampion, IsTally, IsTreeTally, IsTreeChampion, IsTreeOnesChampion};
+ghost use Rattle.ledger.specs.declared.counts.Tally.{Tally as Counted};
+ghost use Rattle.ledger.specs.LedgerText.{ledger_line, ledger_record, HasHeader, IsLedgerOf, IsTaken, ReadsAs, ReadsIn, ledger_text};
+ghost use Rattle.ledger.specs.declared.header.Format.TheVariants.{One, Two};
+ghost use Rattle.ledger.specs.Lists.{AreKept, Offer, AreOffered, answered, held as held_of, BeginsToOverflow, ReadsAsFirst, IsLongest};
 
 /// After any list of offers to an empty board its records are those held of the fit ones among the offered
 /// records, except for those for which memory was refused, and for some whose check may overflow.

@@ -1,30 +1,112 @@
-// The open tables of a board, each with the place of the record that opened it.
-ghost use Rattle.std.specs.Prelude.{◌≡◌, ◌≢◌, ℕ, ◌+◌, ◌^◌, ◌<◌, ◌↔◌, ◌⊎◌, IfOk, IsTrue, OnOk, OnErr, None, Some, [], ◌∷◌, Contains, filter};
+// The open tables of a board, and those that come of a table that halts on a pair.
+ghost use Rattle.std.specs.Prelude.{◌≡◌, ◌↔◌, ◌<◌, ◌≤◌, ◌*◌, ◌^◌, ℕ, Some, Contains, AllPairs, length, ◌≢◌, ◌+◌, ◌⊎◌, IfOk, IsTrue, OnOk, OnErr, None, [], ◌∷◌, filter};
+ghost use Rattle.std.specs.BTreeMap.{IsOrdered, keys, ContainsKey, is_at, insert_entry};
+ghost use Rattle.std.specs.Ordering.{nat_cmp};
+ghost use Rattle.std.specs.declared.cmp.Ordering.TheVariants.{Less};
+ghost use Rattle.std.specs.Cmp.Lexicographic.{slice_cmp};
 ghost use Rattle.std.specs.Map.{lookup};
-ghost use Rattle.std.specs.BTreeMap.{ContainsKey, is_at, insert_entry};
-ghost use Rattle.machine_text.specs.Packed.{Packed, entry_of};
-ghost use Rattle.law_tree.specs.Used.{InOrder};
-ghost use Rattle.law_tree.specs.Tables.{IsChildTable};
-ghost use Rattle.cert.specs.Claim.{ending_by};
-ghost use Rattle.cert.specs.Kinds.{claim_of, recorded};
-ghost use Rattle.cert.specs.Certified.{IsPairOf};
+ghost use Rattle.machine_text.specs.Terms.{table_cmp, Packed, entry_of, text_of};
+ghost use Rattle.law_tree.specs.Terms.{InOrder, IsChildTable};
+ghost use Rattle.kind_evidence.specs.declared.verdicts.Ending.TheVariants.{Halts};
+ghost use Rattle.cert.specs.Terms.{ending_by, claim_of, recorded, HaltsOnPair, IsPairOf};
+ghost use Rattle.ledger.specs.Tally.{AreSoMany};
 ghost use Rattle.ledger.specs.inside.Stored.{records_of};
 ghost use Rattle.ledger.specs.Records.{claim_in};
-ghost use Rattle.machine_text.specs.Order.{table_cmp};
-ghost use Rattle.ledger.specs.inside.Open.{others, AreChildrenAt, HasUnrecorded, IsNewChild};
+ghost use Rattle.ledger.specs.inside.Counting.{others, AreChildrenAt, HasUnrecorded, IsNewChild};
 ghost use Rattle.ledger.specs.inside.Waiting.{ClosesTable};
 
-use crate::children::children_on;
-use crate::index::certificate_for;
+use crate::places::{Waiting, certificate_for};
 use crate::stored_record::StoredRecord;
-use crate::waiting::Waiting;
 use cert::Record;
 use indexmap::IndexMap;
 use kind_evidence::NoMemory;
+use law_tree::children_listed;
 use machine_text::{Pair, Table};
 use std::alloc::Global;
 use std::collections::BTreeMap;
-use tnf::Children;
+use std::collections::btree_map::Keys;
+use std::marker::Model;
+use tnf::{Children, children};
+
+/// An iterator over the open tables of a board, in the order of their texts. It is seen as the list of those that are
+/// left.
+#[derive(Drop)]
+pub struct Open<'a> {
+    left: Keys<'a, Table, u32>,
+}
+
+impl<'a> Model for Open<'a> {
+    ghost use Rattle.std.specs.Prelude.{List};
+    ghost use Rattle.machine_text.specs.Terms.{Packed};
+
+    ghost Value = { List Packed };
+
+    ghost view = { λ a. a.left };
+}
+
+impl<'a> Open<'a> {
+    // All of a map.
+    pub(crate) fn of(tables: &'a BTreeMap<Table, u32>) -> Open<'a>
+        ensures rest { result ≡ keys tables.now }
+        ensures ordered { IsOrdered table_cmp tables.now }
+    {
+        Open {
+            left: tables.keys(),
+        }
+    }
+}
+
+impl<'a> Iterator for Open<'a> {
+    type Item = &'a Table;
+
+    ghost use Rattle.std.specs.Iterator.{YieldsFirstRef, item_count};
+
+    ghost next_gives = { YieldsFirstRef (λ left. left) };
+
+    ghost remaining = { item_count (λ left. left) };
+
+    fn next(&mut self) -> Option<&'a Table> {
+        self.left.next()
+    }
+}
+
+// The children of a table in order that halts on a pair, in the order of their texts.
+pub(crate) fn children_on(parent: &Table, pair: Pair) -> Children
+    requires in_order { (u : ℕ) × InOrder u (entry_of parent.now) }
+    requires halts { (k : ℕ) × HaltsOnPair parent.now k pair }
+    ensures members { (t : Packed) → Contains result t ↔ IsChildTable parent.now t }
+    ensures rising { AllPairs (λ a b. slice_cmp nat_cmp (text_of a) (text_of b) ≡ Less) result }
+    ensures most { length result ≤ 4 * parent.now.states }
+{
+    children_listed();
+    // The proof needs that the parent is a table.
+    let _ = parent.states();
+    children(parent, pair.state, pair.symbol)
+}
+
+// How many children a record's table has, which halts on this pair if it is known to.
+pub(crate) fn child_count(r: &Record, halts_on: Option<Pair>) -> u64
+    requires in_order { (u : ℕ) × InOrder u (entry_of r.now.table) }
+    requires pair { IsPairOf (ending_by (claim_of r.now.certificate)) r.now.table halts_on }
+    ensures number { AreSoMany (λ t. ((k : ℕ) × (ending_by (claim_of r.now.certificate) ≡ Some (Halts k)))
+        × IsChildTable r.now.table t) result }
+    ensures small { result < 2 ^ 63 }
+{
+    // The proof needs that a table has few states.
+    let _ = r.table.states();
+    match halts_on {
+        Some(pair) => counted(children_on(&r.table, pair)),
+        None => 0,
+    }
+}
+
+// How many tables are left.
+fn counted(found: Children) -> u64
+    requires { length found < 2 ^ 32 }
+    ensures { result ≡ length found }
+{
+    found.count() as u64
+}
 
 // The place of what opened the root, which no record has.
 pub(crate) const NO_PLACE: u32 = u32::MAX;

@@ -1,18 +1,83 @@
-// Tables that are selected from a board's records.
-ghost use Rattle.std.specs.Prelude.{◌≡◌, ◌++◌, [], IfOk, OnOk, filter_map};
+// The records of a board, one by one, and tables that are selected from them.
+ghost use Rattle.std.specs.Prelude.{◌≡◌, drop, ◌++◌, [], IfOk, OnOk, filter_map};
 ghost use Rattle.std.specs.List.Sorted.{IsPermutation, IsSorted};
 ghost use Rattle.std.specs.List.{cons_option};
 ghost use Rattle.std.specs.Vec.Iter.{into_iter_items};
 ghost use Rattle.ledger.specs.inside.Stored.{entry_recorded, records_of};
 ghost use Rattle.ledger.specs.inside.Counting.{undecided_table, champion_table, ones_champion_table, tables_with, tables_with_ones};
-ghost use Rattle.machine_text.specs.Order.{table_cmp};
+ghost use Rattle.machine_text.specs.Terms.{table_cmp};
 
 use crate::stored_record::StoredRecord;
+use cert::Record;
 use indexmap::IndexMap;
+use indexmap::map::Iter;
 use kind_evidence::{Ending, NoMemory};
 use machine_text::Table;
 use std::alloc::Global;
+use std::marker::Model;
 use std::vec::IntoIter;
+
+/// An iterator over the records of a board, each lent, in the order in which their tables were taken. It
+/// is seen as the list of those that are left.
+#[derive(Drop)]
+pub struct Records<'a> {
+    left: Iter<'a, Table, StoredRecord>,
+}
+
+impl<'a> Model for Records<'a> {
+    ghost use Rattle.std.specs.Prelude.{List};
+    ghost use Rattle.cert.specs.Terms.{Recorded};
+    ghost use Rattle.ledger.specs.inside.Stored.{records_of};
+
+    ghost Value = { List Recorded };
+
+    ghost view = { λ a. records_of a.left };
+}
+
+impl<'a> Records<'a> {
+    ghost use Rattle.ledger.specs.inside.Stored.{records_of};
+
+    // All of a board.
+    pub(crate) fn of(records: &'a IndexMap<Table, StoredRecord>) -> Records<'a>
+        ensures { result ≡ records_of records.now.entries }
+    {
+        Records {
+            left: records.iter(),
+        }
+    }
+
+    // The records of a board from a place on.
+    pub(crate) fn from_place(
+        records: &'a IndexMap<Table, StoredRecord>,
+        place: usize,
+    ) -> Records<'a>
+        ensures { result ≡ drop place (records_of records.now.entries) }
+    {
+        let parts = records.as_slice().split_at(place.min(records.len()));
+        Records {
+            left: parts.1.iter(),
+        }
+    }
+}
+
+impl<'a> Iterator for Records<'a> {
+    type Item = Record<'a>;
+
+    ghost use Rattle.std.specs.Iterator.{item_count};
+    ghost use Rattle.ledger.specs.Records.{GivesRecord};
+
+    ghost next_gives = { GivesRecord };
+
+    ghost remaining = { item_count (λ left. left) };
+
+    fn next(&mut self) -> Option<Record<'a>> {
+        let (table, stored) = self.left.next()?;
+        Some(Record {
+            table: *table,
+            certificate: stored.lent(),
+        })
+    }
+}
 
 // The tables of the records with the greatest number of steps, those with the greatest score, both of which are given,
 // and those of the records without a verdict, by one pass over the records.

@@ -1,4 +1,1 @@
-mod Complete
-mod Gives
-mod Greatest
-mod Pieces
+mod LoadedTexts

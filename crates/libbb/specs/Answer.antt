@@ -1,19 +1,15 @@
 -- What is said of a record's text, in plain numbers. The outcomes are 0 where its table halts, 1 where it never does, 2
 -- where nothing is claimed, 3 where it is refused, 4 where memory is.
 use Rattle.std.specs.Prelude.{◌≡◌, ℕ, ◌⊎◌, [], ◌∷◌, Option, Some, None, IfSome, Result, Ok, Err}
-use Rattle.machine_text.specs.Packed.{entry_of}
-use Rattle.machine_text.specs.Fault.{text_fault_number, place_of}
-use Rattle.machine_text.specs.declared.faults.TextFault.{TextFault}
+use Rattle.machine_text.specs.Terms.{entry_of, text_fault_number, place_of}
+use Rattle.machine_text.specs.declared.grammar.TextFault.{TextFault}
 use Rattle.kind_evidence.specs.declared.verdicts.Verdict.{Verdict}
 use Rattle.kind_evidence.specs.declared.verdicts.Verdict.TheVariants.{Halts, Never}
 use Rattle.kind_evidence.specs.declared.verdicts.Refused.{Refused}
-use Rattle.kind_evidence.specs.Verdict.{IsTrueOf, refused_number}
-use Rattle.cert.specs.Claim.{Recorded, TakesMemory, score_by, shown_by}
-use Rattle.cert.specs.Certified.{IsCertified, IsRefusedBy}
-use Rattle.cert.specs.Fault.{record_fault_number}
-use Rattle.cert.specs.Grammar.{kind_text}
-use Rattle.cert.specs.declared.record_fault.RecordFault.{RecordFault}
-use Rattle.cert.specs.declared.record_fault.RecordFault.TheVariants.{BadTable, BadKind, BadNumber, BadList, TooLong}
+use Rattle.kind_evidence.specs.Terms.{IsTrueOf, refused_number}
+use Rattle.cert.specs.Terms.{Recorded, TakesMemory, score_by, shown_by, IsCertified, IsRefusedBy, record_fault_number, kind_text}
+use Rattle.cert.specs.declared.record.RecordFault.{RecordFault}
+use Rattle.cert.specs.declared.record.RecordFault.TheVariants.{BadTable, BadKind, BadNumber, BadList, TooLong}
 use Rattle.libbb.specs.declared.answer.Answer.{Answer}
 
 abbrev pub flag : Option ℕ → ℕ

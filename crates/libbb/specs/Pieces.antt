@@ -3,15 +3,14 @@ use Rattle.std.specs.Prelude.{◌≡◌, ℕ, ◌⊎◌, List, ◌++◌}
 use Rattle.std.specs.Borrow.{full_share}
 use Rattle.std.specs.Ptr.{Ptr, lies_at, room_at}
 use base.Fml.{Fml, fex}
-use Rattle.machine_text.specs.Packed.{Packed, entry_of}
-use Rattle.law_tree.specs.Used.{InOrder}
-use Rattle.text.specs.Lines.{HasNoNewline}
-use Rattle.ledger.specs.LedgerText.{HasHeader, HasNoHeader, IsTornHeader}
-use Rattle.ledger.specs.Loading.{StandsAfter}
+use Rattle.machine_text.specs.Terms.{Packed, entry_of}
+use Rattle.law_tree.specs.Terms.{InOrder}
+use Rattle.text.specs.Terms.{HasNoNewline}
+use Rattle.ledger.specs.Terms.{HasHeader, HasNoHeader, IsTornHeader, StandsAfter}
 use Rattle.ledger.specs.declared.faults.LoadFault.{LoadFault}
 use Rattle.ledger.specs.declared.faults.LoadFault.TheVariants.{BadHeader, WrongRoot, NoMemory}
-use Rattle.libbb.specs.declared.behind.Behind.{Behind}
-use Rattle.libbb.specs.declared.behind.Behind.TheVariants.{Headed, Ended}
+use Rattle.libbb.specs.declared.reader.Behind.{Behind}
+use Rattle.libbb.specs.declared.reader.Behind.TheVariants.{Headed, Ended}
 use Rattle.libbb.specs.contracts.reader.Reader.{the_row}
 use Rattle.libbb.specs.declared.reader.Reader.{Reader}
 use Rattle.libbb.specs.declared.reader.Reader.TheVariants.{Begun, Past}

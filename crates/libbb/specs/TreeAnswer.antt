@@ -1,20 +1,17 @@
 -- What is said of a ledger's text, in plain numbers. The outcomes are 0 where its board is complete, 1 where it has
 -- holdouts, 2 where tables are open, 3 where the text is refused, 4 where memory is.
 use Rattle.std.specs.Prelude.{◌≡◌, ◌≢◌, ℕ, ◌⊎◌, List}
-use Rattle.machine_text.specs.Packed.{Packed, entry_of, empty_table}
-use Rattle.law_tree.specs.Used.{InOrder}
-use Rattle.cert.specs.Fault.{record_fault_number}
-use Rattle.cert.specs.Claim.{Recorded}
-use Rattle.ledger.specs.Faults.{offer_fault_number}
-use Rattle.ledger.specs.LedgerText.{HasHeader, HasNoHeader, IsTornHeader, ReadsAs}
-use Rattle.ledger.specs.Tally.{IsStatus, IsTally}
-use Rattle.ledger.specs.declared.left.Left.{Left}
-use Rattle.ledger.specs.declared.left.Left.TheVariants.{Nothing, From}
-use Rattle.ledger.specs.declared.left.Unkept.{Unkept}
-use Rattle.ledger.specs.declared.left.Unkept.TheVariants.{Torn, Unread, Unfit, Repeated}
-use Rattle.ledger.specs.declared.status.Status.{Status}
-use Rattle.ledger.specs.declared.status.Status.TheVariants.{Working, Holdouts, Complete}
-use Rattle.ledger.specs.declared.tally.Tally.{Tally}
+use Rattle.machine_text.specs.Terms.{Packed, entry_of, empty_table}
+use Rattle.law_tree.specs.Terms.{InOrder}
+use Rattle.cert.specs.Terms.{record_fault_number, Recorded}
+use Rattle.ledger.specs.Terms.{offer_fault_number, HasHeader, HasNoHeader, IsTornHeader, ReadsAs, IsStatus, IsTally}
+use Rattle.ledger.specs.declared.loading.Left.{Left}
+use Rattle.ledger.specs.declared.loading.Left.TheVariants.{Nothing, From}
+use Rattle.ledger.specs.declared.loading.Unkept.{Unkept}
+use Rattle.ledger.specs.declared.loading.Unkept.TheVariants.{Torn, Unread, Unfit, Repeated}
+use Rattle.ledger.specs.declared.faults.Status.{Status}
+use Rattle.ledger.specs.declared.faults.Status.TheVariants.{Working, Holdouts, Complete}
+use Rattle.ledger.specs.declared.counts.Tally.{Tally}
 use Rattle.libbb.specs.Answer.{flag, or_zero}
 use Rattle.libbb.specs.declared.tree_answer.TreeAnswer.{TreeAnswer}
 

@@ -1,11 +1,8 @@
 // What is said of a record's text.
 ghost use Rattle.std.specs.Prelude.{◌≡◌, ◌∷◌, [], Ok};
-ghost use Rattle.machine_text.specs.Packed.{entry_of};
-ghost use Rattle.law_turing.specs.Halting.{Never};
-ghost use Rattle.law_turing.specs.Score.{HaltsWith};
-ghost use Rattle.cert.specs.Claim.{Recorded};
-ghost use Rattle.cert.specs.Grammar.{record_of, kind_text};
-ghost use Rattle.cert.specs.Kinds.{recorded, claim_of};
+ghost use Rattle.machine_text.specs.Terms.{entry_of};
+ghost use Rattle.law_turing.specs.Terms.{Never, HaltsWith};
+ghost use Rattle.cert.specs.Terms.{Recorded, record_of, kind_text, recorded, claim_of};
 ghost use Rattle.libbb.specs.Answer.{TellsOfRead, TellsOfRecord, outcome_alone, flag, shown_answer, refused_answer, unread, unread_table};
 
 use cert::{Certificate, Record, RecordFault, judge, standing_claims_are_true};

@@ -1,28 +1,24 @@
-//! The judge as C functions, which other languages call: one judges a record, one a ledger, three a ledger whose text comes
-//! in pieces. `packaging/c/bb.h` says to a caller what he gives and gets.
+//! The judge as C functions, which other languages call: one judges a record, one a ledger, three a ledger whose text
+//! comes in pieces. `packaging/c/bb.h` says to a caller what he gives and gets.
 //!
 //! What is said of a record and of a ledger is plain numbers, since a program in another language has no text to read
 //! then: `specs/Answer` says which numbers come of a record's text, `specs/TreeAnswer` which come of a ledger's, and
 //! `specs/Pieces` what a reader holds of the text that it was fed, which lies in the caller's memory.
 //!
-//! But for that, no function keeps anything between two calls, and none waits for another: threads may make them side by
-//! side.
+//! But for that, no function keeps anything between two calls, and none waits for another: threads may make them side
+//! by side.
 #![tactic(auto)]
 
 mod answer;
-mod behind;
-mod first_bytes;
 mod reader;
 mod tree_answer;
 
 ghost use Rattle.std.specs.Prelude.{◌≡◌, ◌++◌, ℕ, List, [], Ok};
 ghost use Rattle.std.specs.Borrow.{sem};
-ghost use Rattle.machine_text.specs.Packed.{entry_of};
-ghost use Rattle.law_turing.specs.Halting.{IsRado, Never};
-ghost use Rattle.law_turing.specs.Score.{HaltsWith};
-ghost use Rattle.cert.specs.Claim.{Recorded};
-ghost use Rattle.cert.specs.Grammar.{record_of};
-ghost use Rattle.ledger.specs.Sigma.{IsSigma};
+ghost use Rattle.machine_text.specs.Terms.{entry_of};
+ghost use Rattle.law_turing.specs.Terms.{IsRado, Never, HaltsWith};
+ghost use Rattle.cert.specs.Terms.{Recorded, record_of};
+ghost use Rattle.ledger.specs.Terms.{IsSigma};
 ghost use Rattle.libbb.specs.Answer.{TellsOfRead};
 ghost use Rattle.libbb.specs.Pieces.{reader_at, reader_room};
 ghost use Rattle.libbb.specs.TreeAnswer.{Reports};

@@ -1,17 +1,147 @@
 // A ledger's text that is reported in pieces.
-ghost use Rattle.std.specs.Prelude.{◌≡◌, ◌⊎◌, ◌<◌, ◌≤◌, ◌++◌, ℕ, List, [], length, true, false};
-ghost use Rattle.law_turing.specs.Halting.{IsRado};
-ghost use Rattle.text.specs.Lines.{HasNoNewline};
-ghost use Rattle.ledger.specs.Limits.{header_byte_limit};
-ghost use Rattle.ledger.specs.Sigma.{IsSigma};
+ghost use Rattle.std.specs.Prelude.{◌≡◌, ◌+◌, ◌++◌, ◌∷◌, ◌<◌, ◌≤◌, [], length, ◌⊎◌, ℕ, List, true, false};
+ghost use Rattle.ledger.specs.Terms.{header_byte_limit, StandsAfter, IsSigma};
+ghost use Rattle.law_turing.specs.Terms.{IsRado};
+ghost use Rattle.text.specs.Terms.{HasNoNewline};
 ghost use Rattle.libbb.specs.TreeAnswer.{Reports};
-ghost use Rattle.libbb.specs.Pieces.{HasCome};
+ghost use Rattle.libbb.specs.Pieces.{IsBehind, IsHeadedBy, HasCome};
 
-use crate::behind::Behind;
-use crate::first_bytes::{FirstBytes, MAX_HEADER_BYTES};
-use crate::tree_answer::{TreeAnswer, report_text};
+use crate::tree_answer::{TreeAnswer, refused, report_text, tell};
+use ledger::{LoadFault, Loader, peek_root};
 use std::alloc::Global;
+use std::marker::Model;
 use text::first_line;
+
+/// More bytes than a ledger's header has.
+pub(crate) const MAX_HEADER_BYTES: usize = 64;
+
+/// The first bytes of a text, as far as they have come: no more than show whether it has a header. It takes no memory.
+#[derive(Drop)]
+pub struct FirstBytes {
+    buffer: [u8; MAX_HEADER_BYTES],
+    len: usize,
+}
+
+impl Model for FirstBytes {
+    ghost use Rattle.std.specs.Prelude.{ℕ, List, ◌≤◌, take};
+    ghost use Rattle.ledger.specs.Terms.{header_byte_limit};
+
+    ghost Value = { List ℕ };
+
+    ghost view = { λ a. take a.len a.buffer };
+
+    ghost invariant = { λ a. a.len ≤ header_byte_limit };
+}
+
+impl FirstBytes {
+    /// None of them.
+    pub fn new() -> FirstBytes
+        ensures { result ≡ [] }
+    {
+        FirstBytes {
+            buffer: [0; MAX_HEADER_BYTES],
+            len: 0,
+        }
+    }
+
+    /// Takes more bytes of the text, for which there must be room.
+    pub fn add(&mut self, more: &[u8])
+        requires { length self.old + length more.now ≤ header_byte_limit }
+        ensures { self.new ≡ self.old ++ more.now }
+    {
+        for byte in more {
+            self.push(*byte);
+        }
+    }
+
+    /// All of them.
+    pub fn bytes(&self) -> &[u8]
+        ensures { result.now ≡ self.now }
+    {
+        &self.buffer[..self.len]
+    }
+
+    /// For how many more of them there is room.
+    pub fn room(&self) -> usize
+        ensures { result + length self.now ≡ header_byte_limit }
+    {
+        MAX_HEADER_BYTES - self.len
+    }
+
+    // Takes one more byte.
+    fn push(&mut self, byte: u8)
+        requires { length self.old < header_byte_limit }
+        ensures { self.new ≡ self.old ++ byte ∷ [] }
+    {
+        self.buffer[self.len] = byte;
+        self.len += 1;
+    }
+}
+
+/// What a text has come to.
+#[derive(Drop)]
+pub enum Behind {
+    /// There is a header, and the text is being loaded.
+    Headed(Loader),
+    /// There is no board of it, whatever follows.
+    Ended(LoadFault),
+}
+
+impl Behind {
+    /// Behind these first bytes, which are enough to show whether the text has a header.
+    pub fn of(alloc: Global, first: &[u8]) -> Behind
+        requires { (HasNoNewline first.now → ⊥) ⊎ (header_byte_limit ≤ length first.now) }
+        ensures { IsBehind first.now result }
+    {
+        match peek_root(first) {
+            Ok(Some(root)) => loaded(Loader::new(alloc, root), first),
+            Ok(None) => Behind::Ended(LoadFault::BadHeader),
+            Err(fault) => Behind::Ended(fault),
+        }
+    }
+
+    /// Behind one more piece.
+    pub fn fed(self, piece: &[u8]) -> Behind
+        ensures { (text : List ℕ) → IsBehind text self → IsBehind (text ++ piece.now) result }
+    {
+        match self {
+            Behind::Headed(loader) => loaded(loader, piece),
+            Behind::Ended(fault) => Behind::Ended(fault),
+        }
+    }
+
+    /// Reports the text, which ends here.
+    pub fn report(self) -> TreeAnswer
+        ensures reports { (text : List ℕ) → IsBehind text self → Reports text result }
+        ensures rado { result.outcome ≡ 0 → result.is_whole ≡ 1 → result.has_best ≡ 1
+            → IsRado result.states result.best }
+        ensures sigma { result.outcome ≡ 0 → result.is_whole ≡ 1 → result.has_ones ≡ 1
+            → IsSigma result.states result.ones }
+    {
+        match self {
+            Behind::Headed(loader) => match loader.finish() {
+                Ok((board, left)) => tell(&board, &left),
+                Err(fault) => refused(fault),
+            },
+            Behind::Ended(fault) => refused(fault),
+        }
+    }
+}
+
+// Loads one more piece, with which the text has the header of the loader's root.
+fn loaded(loader: Loader, piece: &[u8]) -> Behind
+    ensures { (text : List ℕ) → StandsAfter loader text → IsHeadedBy loader.root (text ++ piece.now)
+        → IsBehind (text ++ piece.now) result }
+{
+    let mut loader = loader;
+    if piece.len() as u64 > u64::MAX - loader.bytes() {
+        return Behind::Ended(LoadFault::NoMemory);
+    }
+    match loader.feed(piece) {
+        Ok(()) => Behind::Headed(loader),
+        Err(_) => Behind::Ended(LoadFault::NoMemory),
+    }
+}
 
 /// A ledger's text, as far as it has come. What isn't finished of a line is kept, and the board; no other byte of it is.
 #[derive(Drop)]

@@ -1,10 +1,9 @@
 // What is said of a ledger's text.
 ghost use Rattle.std.specs.Prelude.{◌≡◌, ℕ, List};
-ghost use Rattle.machine_text.specs.Packed.{entry_of};
-ghost use Rattle.law_turing.specs.Halting.{IsRado};
-ghost use Rattle.law_tree.specs.Used.{InOrder};
-ghost use Rattle.ledger.specs.LedgerText.{HasHeader};
-ghost use Rattle.ledger.specs.Sigma.{IsSigma};
+ghost use Rattle.machine_text.specs.Terms.{entry_of};
+ghost use Rattle.law_turing.specs.Terms.{IsRado};
+ghost use Rattle.law_tree.specs.Terms.{InOrder};
+ghost use Rattle.ledger.specs.Terms.{HasHeader, IsSigma};
 ghost use Rattle.libbb.specs.Answer.{flag, or_zero};
 ghost use Rattle.libbb.specs.TreeAnswer.{IsEmptyRoot, Reports, TellsOf, unkept_code, unkept_line, unkept_why, status_number, told, no_tree, why_code, why_number};
 

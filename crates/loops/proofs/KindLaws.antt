@@ -1,15 +1,11 @@
 -- Cycles and translated cycles are kinds.
 use Rattle.std.proofs.Common.{[], ◌∷◌, refl, arith}
 use Rattle.std.specs.Prelude.{decimal}
-use Rattle.kind_evidence.specs.Side.{side_text}
-use Rattle.kind_evidence.proofs.Sides.{side_back, side_is_high, length_of_side}
-use Rattle.text.specs.Fields.{AreFields}
-use Rattle.text.proofs.Numbers.{decimal_value-decimal, length_of_number}
-use Rattle.text.proofs.Spaced.{number_is_field, and_field, no_fields, length-spaced}
-use Rattle.kind_evidence.specs.Kind.{IsKind}
-use Rattle.kind_evidence.proofs.Letters.{is_letter}
-use Rattle.kind_evidence.proofs.Room.{have_room}
-use Rattle.loops.specs.declared.cycle.Cycle.{Cycle}
+use Rattle.kind_evidence.specs.Terms.{side_text, IsKind}
+use Rattle.kind_evidence.proofs.EvidenceLaws.{side_back, side_is_high, length_of_side, is_letter, have_room}
+use Rattle.text.specs.Terms.{AreFields}
+use Rattle.text.proofs.DecimalFields.{decimal_value-decimal, length_of_number, number_is_field, and_field, no_fields, length-spaced}
+use Rattle.loops.specs.declared.cycles.Cycle.{Cycle}
 use Rattle.loops.specs.declared.translated.Translated.{Translated}
 use Rattle.loops.specs.Kinds.{cycle_fields, cycle_kind, translated_fields, translated_kind}
 

@@ -1,5 +1,2 @@
-pub mod TimeLaws
-pub mod BoundLaws
-pub mod TestLaws
-pub mod MomentLaws
+pub mod CycleLaws
 pub mod KindLaws

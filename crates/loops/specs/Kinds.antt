@@ -1,18 +1,14 @@
 -- Cycles and translated cycles as kinds of certificates: how their fields are read and written, what they mean, and their
 -- laws.
 use Rattle.std.specs.Prelude.{ℕ, List, [], ◌∷◌, Result, Ok, Err, decimal, ◌<◌, ◌≤◌, ◌^◌, codes}
-use Rattle.text.specs.Decimal.{decimal_value}
-use Rattle.text.specs.Fields.{with_value}
+use Rattle.text.specs.Terms.{decimal_value, with_value}
 use Rattle.text.specs.declared.fields.FieldFault.{FieldFault}
 use Rattle.text.specs.declared.fields.FieldFault.TheVariants.{BadKind}
-use Rattle.kind_evidence.specs.Side.{side_of, side_text}
-use Rattle.machine_text.specs.Packed.{entry_of}
-use Rattle.law_turing.specs.Cycle.{Cycle as IsCycle}
-use Rattle.law_turing.specs.Translated.{Translated as IsTranslated}
-use Rattle.law_turing.proofs.CycleLaws.{cycle_never}
-use Rattle.law_turing.proofs.TranslatedLaws.{translated_never}
-use Rattle.kind_evidence.specs.Kind.{Kind}
-use Rattle.loops.specs.declared.cycle.Cycle.{Cycle}
+use Rattle.kind_evidence.specs.Terms.{side_of, side_text, Kind}
+use Rattle.machine_text.specs.Terms.{entry_of}
+use Rattle.law_turing.specs.Terms.{Cycle as IsCycle, Translated as IsTranslated}
+use Rattle.law_turing.proofs.Cycles.{cycle_never, translated_never}
+use Rattle.loops.specs.declared.cycles.Cycle.{Cycle}
 use Rattle.loops.specs.declared.translated.Translated.{Translated}
 use Rattle.loops.specs.Limits.{time_limit}
 

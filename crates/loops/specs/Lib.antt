@@ -1,3 +1,4 @@
 pub mod Limits
 pub mod Kinds
 pub mod inside
+pub mod Terms

@@ -1,5 +1,5 @@
 // The laws of the two kinds.
-ghost use Rattle.kind_evidence.specs.Kind.{IsKind};
+ghost use Rattle.kind_evidence.specs.Terms.{IsKind};
 ghost use Rattle.loops.specs.Kinds.{cycle_kind, translated_kind};
 
 /// Cycles are a kind: their fields read back, and where one stands the table never halts.

@@ -1,19 +1,43 @@
 // The searches for loops: a run of a table, and what looks at each of its times.
-ghost use Rattle.std.specs.Prelude.{◌≡◌, ◌+◌, ◌≤◌, min, IfSome, IfOk};
-ghost use Rattle.law_turing.specs.Run.{start};
+ghost use Rattle.std.specs.Prelude.{◌≡◌, ◌+◌, ◌<◌, ◌≤◌, IfOk, min, IfSome};
 ghost use Rattle.loops.specs.Limits.{time_limit};
+ghost use Rattle.loops.specs.inside.{ComesTo};
+ghost use Rattle.law_turing.specs.Terms.{start};
 
-use crate::arrival::goes_on;
 use crate::limits::MAX_TIME;
 use kind_evidence::NoMemory;
 use machine_text::Table;
-use run::Runner;
+use run::{Runner, Step};
 use std::alloc::Global;
+
+// Whether the run comes to time k. If so, the runner then stands there.
+pub(crate) fn comes_to(runner: &mut Runner, k: u64) -> Result<bool, NoMemory>
+    requires onward { runner.old.steps ≤ k }
+    requires limit { k ≤ time_limit }
+    ensures { IfOk result (λ came. ComesTo k runner.old came runner.new) }
+{
+    match runner.run_to(k)? {
+        Step::Went => Ok(true),
+        Step::Halts { count: _ } => Ok(false),
+    }
+}
+
+// Whether the run comes to the next time. If so, the runner then stands there.
+#[inline]
+pub(crate) fn goes_on(runner: &mut Runner) -> Result<bool, NoMemory>
+    requires { runner.old.steps < time_limit }
+    ensures { IfOk result (λ came. ComesTo (runner.old.steps + 1) runner.old came runner.new) }
+{
+    match runner.step()? {
+        Step::Went => Ok(true),
+        Step::Halts { count: _ } => Ok(false),
+    }
+}
 
 // What looks at a run, time by time, until it finds a loop.
 pub(crate) trait Watch: Drop {
     ghost use Rattle.std.specs.Prelude.{◌≡◌, ℕ, ◌+◌, ◌≤◌, IfSome, IfNone, IfOk, OnOk};
-    ghost use Rattle.machine_text.specs.Packed.{Packed};
+    ghost use Rattle.machine_text.specs.Terms.{Packed};
     ghost use Rattle.loops.specs.Limits.{time_limit};
 
     // A loop that is found.

@@ -1,10 +1,11 @@
-// A configuration that is kept, to hold later ones against.
-ghost use Rattle.std.specs.Prelude.{◌≡◌, ◌↔◌, ◌≤◌, IfOk, OnOk, IsTrue, ℤ, pos, ◌+ℤ◌, ◌-ℤ◌};
-ghost use Rattle.machine_text.specs.Packed.{entry_of};
-ghost use Rattle.law_turing.specs.Translated.{Beyond, Farthest, Translated};
-ghost use Rattle.run.specs.RunState.{OnRun};
-ghost use Rattle.tape.specs.Places.{IsWithinLimit};
+// A configuration that is kept, to hold later ones against, and how many cells may be compared.
+ghost use Rattle.std.specs.Prelude.{◌≡◌, ◌↔◌, ◌+◌, ◌*◌, ◌<◌, ◌≤◌, IsTrue, ◌-ℤ◌, unsigned_abs, IfOk, OnOk, ℤ, pos, ◌+ℤ◌};
+ghost use Rattle.std.specs.Bool.{OnTrue, OnFalse};
 ghost use Rattle.loops.specs.Limits.{time_limit};
+ghost use Rattle.machine_text.specs.Terms.{entry_of};
+ghost use Rattle.law_turing.specs.Terms.{Beyond, Farthest, Translated};
+ghost use Rattle.run.specs.Terms.{OnRun};
+ghost use Rattle.tape.specs.Terms.{IsWithinLimit};
 
 use kind_evidence::NoMemory;
 use machine_text::{Dir, State};
@@ -12,6 +13,49 @@ use run::Runner;
 use std::alloc::Global;
 use std::marker::Model;
 use tape::Tape;
+
+// How many cells may be compared for each step up to the time at which a configuration is kept. Of random
+// tables with loops none was missed for it, nor with 1 in its place; a greater number makes the slowest
+// searches slower.
+const CELLS_PER_STEP: u64 = 2;
+
+// How many cells may be compared besides, so that loops of the first few steps are seen.
+const CELLS_BESIDES: u64 = 16;
+
+// The cells that a search may still compare before it keeps the next configuration. It keeps one whenever
+// twice the time has come, and with it begins a new allowance, in proportion to the time: so all the
+// allowances of a search together are in proportion to its steps.
+#[derive(Clone, Copy)]
+pub(crate) struct Allowance {
+    cells: u64,
+}
+
+impl Allowance {
+    // The allowance that begins at a time.
+    pub fn at(time: u64) -> Allowance
+        requires { time ≤ time_limit }
+        ensures { result.cells ≡ CELLS_PER_STEP * time + CELLS_BESIDES }
+    {
+        Allowance {
+            cells: CELLS_PER_STEP * time + CELLS_BESIDES,
+        }
+    }
+
+    // Takes off the cells from one place to another, both included, if so many are left. If not, nothing is
+    // taken off, and they may not be compared.
+    pub fn spend(&mut self, first: i64, last: i64) -> bool
+        ensures enough { IsTrue result ↔ (unsigned_abs (last -ℤ first) < self.old.cells) }
+        ensures spent { OnTrue result (self.new.cells + (unsigned_abs (last -ℤ first) + 1) ≡ self.old.cells) }
+        ensures kept { OnFalse result (self.new ≡ self.old) }
+    {
+        let distance = last.abs_diff(first);
+        let enough = distance < self.cells;
+        if enough {
+            self.cells -= distance + 1;
+        }
+        enough
+    }
+}
 
 /// A time of a run, and the configuration at that time.
 #[derive(Drop)]
@@ -22,7 +66,7 @@ pub(crate) struct Snapshot {
 }
 
 impl Model for Snapshot {
-    ghost use Rattle.loops.specs.inside.Moment.{Moment, moment_code};
+    ghost use Rattle.loops.specs.inside.{Moment, moment_code};
 
     ghost Value = { Moment };
 
@@ -32,7 +76,7 @@ impl Model for Snapshot {
 }
 
 impl Snapshot {
-    ghost use Rattle.loops.specs.inside.Moment.{moment_of, IsMomentOf};
+    ghost use Rattle.loops.specs.inside.{moment_of, IsMomentOf};
 
     // Of no run: time 0 on a blank tape. Takes no memory.
     pub fn blank(alloc: Global) -> Snapshot {

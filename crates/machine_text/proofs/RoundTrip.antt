@@ -1,20 +1,100 @@
--- Parsing the text of a table gives the table again.
-use Rattle.std.proofs.Common.{◌≡◌, ◌≢◌, ℕ, zero, suc, ◌+◌, ◌-◌, ◌*◌, ◌/◌, ◌%◌, ◌<◌, ◌≤◌, true, false, eqb, cond, [], length, get_or, Option, Some, None, IfSome, Ok, refl, sym, ap, ◌∙◌, inl, inr, arith}
+-- The text of a table is ASCII, and names that table when it is parsed.
+use Rattle.std.proofs.Common.{◌≡◌, ℕ, ◌+◌, ◌-◌, ◌*◌, ◌/◌, ◌%◌, ◌<◌, ◌≤◌, true, false, eqb, cond, List, [], ◌∷◌, length, get_or, Option, Some, None, IfSome, Ok, Err, refl, sym, ap, ◌∙◌, inl, inr, arith, ◌≢◌, zero, suc}
 use Rattle.std.proofs.lemmas.Bool.{cases_lt}
 use Rattle.std.proofs.lemmas.Bool.Decides.{nat_tests}
+use Rattle.std.proofs.lemmas.List.{ext_get_or, get_or_past}
+use Rattle.std.proofs.lemmas.List.FromFn.{length-map-range_with_len}
 use Rattle.machine_text.specs.Limits.{state_limit}
-use Rattle.machine_text.specs.declared.transition.Sym.{Sym}
-use Rattle.machine_text.specs.declared.transition.Sym.TheVariants.{Zero, One}
-use Rattle.machine_text.specs.declared.transition.Dir.{Dir}
-use Rattle.machine_text.specs.declared.transition.Dir.TheVariants.{L, R}
-use Rattle.machine_text.specs.declared.transition.Entry.{Entry}
-use Rattle.machine_text.specs.Packed.{Packed, IsTable, symbol_number, symbol_of, coded_entry, pair_place, entry_of, tabulated}
-use Rattle.machine_text.specs.Text.{symbol_byte, direction_byte, text_of, states_in, is_table_length, is_state_letter, may_begin, may_direct, may_end, fault_at, faults_of, entry_named, table_named, table_of}
+use Rattle.machine_text.specs.declared.table.Sym.{Sym}
+use Rattle.machine_text.specs.declared.table.Sym.TheVariants.{Zero, One}
+use Rattle.machine_text.specs.declared.table.Dir.TheVariants.{L, R}
+use Rattle.machine_text.specs.declared.table.Entry.{Entry}
+use Rattle.machine_text.specs.declared.grammar.TextFault.{TextFault}
+use Rattle.machine_text.specs.declared.grammar.TextFault.TheVariants.{BadLength}
+use Rattle.machine_text.specs.Packed.{symbol_number, symbol_of, code_of, tabulated, IsMapOf, Packed, IsTable, coded_entry, pair_place, entry_of}
+use Rattle.machine_text.specs.Text.{states_in, is_table_length, is_state_letter, faults_of, entry_named, table_named, table_of, symbol_byte, direction_byte, text_of, may_begin, may_direct, may_end, fault_at}
+use Rattle.machine_text.proofs.Tables.{symbol_number-symbol_of, entry_with, codes-tabulated, symbol_number-le, symbol_of-symbol_number, same_entry, same_table, IsTable-tabulated, entry_of-tabulated}
+use Rattle.machine_text.specs.declared.table.Dir.{Dir}
 use Rattle.machine_text.specs.inside.{entry_byte, byte_at}
-use Rattle.machine_text.proofs.Ranges.{found_nowhere}
-use Rattle.machine_text.proofs.Tables.{symbol_number-le, symbol_of-symbol_number, entry_with, same_entry, same_table, IsTable-tabulated, entry_of-tabulated}
+use Rattle.machine_text.proofs.Reading.{found_nowhere}
 use Rattle.machine_text.proofs.Rows.{length-text_of, get_or-text_of, byte_in_row, byte_of_bar}
-use Rattle.machine_text.proofs.Named.{named, IsMapOf-named, table_of-clean}
+
+-- The table that a text names, and what parsing the text of a table gives.
+
+-- a letter is that of one of n states
+letter_within : (n byte : ℕ) → is_state_letter n byte ≡ true → byte - 65 < n
+letter_within n byte is = grind (arith, nat_tests)
+
+-- what a text of n states names, pair by pair
+abbrev pub named : ℕ → List ℕ → ℕ → Sym → Option Entry
+named n text q s = entry_named n text (7 * q + 3 * symbol_number s)
+
+-- it is a map of n states
+module _ (n : ℕ) (text : List ℕ) (some : 1 ≤ n) (limit : n ≤ state_limit) (size : 7 * n ≡ length text + 1) where
+  inside_named : (i : ℕ) → IfSome (entry_named n text i) (λ e. e.next.0 < n)
+  unfolding entry_named
+  inside_named i =
+      elim (is_state_letter n (get_or text (i + 2) 0)) as (λ b. is_state_letter n (get_or text (i + 2) 0) ≡ b → IfSome (cond b (Some (entry_with (cond (eqb (get_or text i 0) 48) Zero One) (cond (eqb (get_or text (i + 1) 0) 76) L R) (get_or text (i + 2) 0 - 65))) None) (λ e. e.next.0 < n)) [
+        | true ↦ λ is. letter_within n (get_or text (i + 2) 0) is
+        | false ↦ λ is. tt
+      ] refl
+
+  none_past : (i : ℕ) → length text ≤ i + 2 → entry_named n text i ≡ None
+  unfolding entry_named
+  none_past i past =
+      let blank : get_or text (i + 2) 0 ≡ 0 = get_or_past text (i + 2) 0 past in
+      rw blank refl
+
+  pub IsMapOf-named : IsMapOf n (named n text)
+  IsMapOf-named = record {
+    some = some;
+    limit = limit;
+    beyond = λ q s past. none_past (7 * q + 3 * symbol_number s) (omega arith);
+    inside = λ q s. inside_named (7 * q + 3 * symbol_number s);
+  }
+
+  place_of_pair : (k : ℕ) → 7 * (k / 2) + 3 * symbol_number (symbol_of (k % 2)) ≡ 7 * (k / 2) + 3 * (k % 2)
+  place_of_pair k = ap (λ s. 7 * (k / 2) + 3 * s) (symbol_number-symbol_of (k % 2) (omega arith))
+
+  -- codes that are written for the pairs of the states, and for no others, are those of the table
+  pub codes_from_written : (codes : List ℕ) → length codes ≡ 2 * state_limit
+      → ((j : ℕ) → j < 2 * n → get_or codes j 0 ≡ code_of (entry_named n text (7 * (j / 2) + 3 * (j % 2))))
+      → ((j : ℕ) → 2 * n ≤ j → get_or codes j 0 ≡ 0)
+      → codes ≡ (table_named n text).codes
+  unfolding tabulated
+  codes_from_written codes all written others =
+      ext_get_or 0 codes (table_named n text).codes (all ∙ sym (length-map-range_with_len (λ k. code_of (named n text (k / 2) (symbol_of (k % 2)))) 0 (2 * state_limit))) (λ j below.
+      let same : code_of (entry_named n text (7 * (j / 2) + 3 * (j % 2))) ≡ get_or (table_named n text).codes j 0 =
+      ap (λ i. code_of (entry_named n text i)) (sym (place_of_pair j)) ∙ sym (codes-tabulated n (named n text) IsMapOf-named j) in
+      elim (cases_lt j (2 * n)) [
+        | inl within ↦ written j within ∙ same
+        | inr past ↦
+            let none : entry_named n text (7 * (j / 2) + 3 * (j % 2)) ≡ None = none_past _ (omega arith) in
+            others j past ∙ ap code_of (sym none) ∙ same
+      ])
+
+-- what a text is read as, by its length and its faults
+pub table_of-length : (text : List ℕ) → is_table_length (length text) ≡ false → table_of text ≡ Err BadLength
+unfolding table_of
+table_of-length text other = rw other refl
+
+pub table_of-faulty : (text : List ℕ) (n : ℕ) (f : TextFault) (others : List TextFault) → n ≡ states_in (length text) → is_table_length (length text) ≡ true → faults_of n text ≡ f ∷ others → table_of text ≡ Err f
+unfolding table_of
+table_of-faulty text n f others states size faults =
+    let same : faults_of (states_in (length text)) text ≡ f ∷ others = ap (λ m. faults_of m text) (sym states) ∙ faults in
+    rw (size, same) refl
+
+pub table_of-clean : (text : List ℕ) (n : ℕ) → n ≡ states_in (length text) → is_table_length (length text) ≡ true → faults_of n text ≡ [] → table_of text ≡ Ok (table_named n text)
+unfolding table_of
+table_of-clean text n states size faults =
+    let same : faults_of (states_in (length text)) text ≡ [] = ap (λ m. faults_of m text) (sym states) ∙ faults in
+    rw (size, same) (ap (λ m. Ok (table_named m text)) (sym states))
+
+-- what a table's length says
+pub length_of_states : (len n : ℕ) → n ≡ states_in len → is_table_length len ≡ true → (7 * n ≡ len + 1) × (1 ≤ n) × (n ≤ state_limit)
+length_of_states len n states is = (grind (arith, nat_tests), grind (arith, nat_tests), grind (arith, nat_tests))
+
+-- Parsing the text of a table gives the table again.
 
 -- the entries of a table lead to its states
 pub next_within : (p : Packed) → IsTable p → (q : ℕ) (s : Sym) → IfSome (entry_of p q s) (λ e. e.next.0 < p.states)
@@ -237,3 +317,35 @@ text_of_from_45 p table i below =
           let here : get_or (text_of p) i 0 ≡ 95 = get_or-text_of p table.some i inside ∙ ap (byte_at p) (let e : i ≡ 7 * (i / 7) + 6 = omega arith in e) ∙ byte_of_bar p (i / 7) in
           rw here (omega arith)
     ]
+
+-- The text of a table is ASCII.
+symbol_below : (w : Sym) → symbol_byte w < 128
+symbol_below Zero = omega arith
+symbol_below One = omega arith
+
+direction_below : (d : Dir) → direction_byte d < 128
+direction_below L = omega arith
+direction_below R = omega arith
+
+-- the bytes of an entry whose next state is within the limit
+entry_below : (o : Option Entry) (n c : ℕ) → n ≤ state_limit → IfSome o (λ e. e.next.0 < n) → entry_byte o c < 128
+entry_below None n c limit inside = omega arith
+entry_below (Some e) n c limit inside = elim (eqb c 0) as (λ b. cond b (symbol_byte e.write) (cond (eqb c 1) (direction_byte e.dir) (65 + e.next.0)) < 128) [
+  | true ↦ symbol_below e.write
+  | false ↦ elim (eqb c 1) as (λ b. cond b (direction_byte e.dir) (65 + e.next.0) < 128) [ true ↦ direction_below e.dir | false ↦ omega arith ]
+]
+
+byte_below : (p : Packed) → IsTable p → (i : ℕ) → byte_at p i < 128
+unfolding byte_at
+byte_below p table i = elim (eqb (i % 7) 6) as (λ b. cond b 95 (entry_byte (entry_of p (i / 7) (symbol_of (i % 7 / 3))) (i % 7 % 3)) < 128) [
+  | true ↦ omega arith
+  | false ↦ entry_below _ p.states (i % 7 % 3) table.limit (next_within p table (i / 7) (symbol_of (i % 7 / 3)))
+]
+
+pub text_below : (p : Packed) → IsTable p → (i : ℕ) → get_or (text_of p) i 0 < 128
+text_below p table i = elim (cases_lt (i + 1) (7 * p.states)) [
+  | inl within ↦ rw (get_or-text_of p table.some i within) (byte_below p table i)
+  | inr past ↦
+      let none : get_or (text_of p) i 0 ≡ 0 = get_or_past (text_of p) i 0 (omega (arith, length-text_of p table.some)) in
+      rw none (omega arith)
+]

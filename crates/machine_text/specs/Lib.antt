@@ -1,7 +1,5 @@
 pub mod Limits
-pub mod Fault
-pub mod Packed
-pub mod Order
-pub mod OrderLaws
 pub mod Text
+pub mod Packed
 pub mod inside
+pub mod Terms

@@ -1,13 +1,21 @@
--- What a table is: a number of states, and a finite map from pairs (state, symbol read) to entries.
--- A table is stored with one number for each pair; `entry_of` is the map, and all else is said by it.
+-- What a table is, and the order of tables.
 use Rattle.std.specs.Prelude.{◌≡◌, ℕ, zero, suc, ◌+◌, ◌-◌, ◌*◌, ◌/◌, ◌%◌, ◌<◌, ◌≤◌, ◌==◌, ◌&&◌, Bool, true, false, if◌then◌else◌, List, Option, Some, None, IfSome, slice_index, length, map}
 use Rattle.std.specs.List.{range_with_len}
+use Rattle.std.specs.Ordering.{nat_cmp, on, then_cmp, is_eq, ordering_then}
+use Rattle.std.specs.declared.cmp.Ordering.{Ordering}
+use Rattle.std.specs.Cmp.Lexicographic.{slice_cmp, pointwise, texts_ties}
+use Rattle.std.proofs.Common.{refl, ◌∙◌, ap, nat_eq}
+use Rattle.std.specs.declared.cmp.Ordering.TheVariants.{Less, Equal, Greater}
+use Rattle.std.specs.Cmp.{unsigned_ties}
 use Rattle.machine_text.specs.Limits.{state_limit}
-use Rattle.machine_text.specs.declared.transition.Sym.{Sym}
-use Rattle.machine_text.specs.declared.transition.Sym.TheVariants.{Zero, One}
-use Rattle.machine_text.specs.declared.transition.Dir.{Dir}
-use Rattle.machine_text.specs.declared.transition.Dir.TheVariants.{L, R}
-use Rattle.machine_text.specs.declared.transition.Entry.{Entry}
+use Rattle.machine_text.specs.declared.table.Sym.{Sym}
+use Rattle.machine_text.specs.declared.table.Sym.TheVariants.{Zero, One}
+use Rattle.machine_text.specs.declared.table.Dir.{Dir}
+use Rattle.machine_text.specs.declared.table.Dir.TheVariants.{L, R}
+use Rattle.machine_text.specs.declared.table.Entry.{Entry}
+
+-- What a table is: a number of states, and a finite map from pairs (state, symbol read) to entries.
+-- A table is stored with one number for each pair; `entry_of` is the map, and all else is said by it.
 
 -- the number of a symbol, and the symbol of a number
 abbrev pub symbol_number : Sym → ℕ
@@ -103,3 +111,19 @@ hole (Some e) = 0
 unfoldable pub holes : ℕ → (ℕ → Sym → Option Entry) → ℕ
 holes zero m = 0
 holes (suc n) m = hole (m n Zero) + hole (m n One) + holes n m
+
+-- The order of tables: that of their texts, where they have as many states.
+abbrev pub table_cmp : Packed → Packed → Ordering
+table_cmp = then_cmp (on (λ t. t.codes) (slice_cmp nat_cmp)) (on (λ t. t.states) nat_cmp)
+
+-- Tables tie exactly where they are the same.
+both_tie : (r s : Ordering) → (is_eq r && is_eq s) ≡ is_eq (ordering_then r s)
+both_tie Less s = refl
+both_tie Equal s = refl
+both_tie Greater s = refl
+
+pub table_ties : (x y : Packed) → (pointwise nat_eq x.codes y.codes && nat_eq x.states y.states) ≡ is_eq (table_cmp x y)
+table_ties x y =
+    ap (λ b. b && nat_eq x.states y.states) (texts_ties x.codes y.codes)
+    ∙ ap (λ b. is_eq (slice_cmp nat_cmp x.codes y.codes) && b) (unsigned_ties x.states y.states)
+    ∙ both_tie (slice_cmp nat_cmp x.codes y.codes) (nat_cmp x.states y.states)

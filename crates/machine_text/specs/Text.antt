@@ -1,17 +1,33 @@
--- The text of a table in the bbchallenge standard format, which table a text names, and why a text is no
--- table. Bytes are their ASCII codes: 45 `-`, 48 `0`, 49 `1`, 65 `A`, 72 `H`, 76 `L`, 82 `R`, 90 `Z`, 95 `_`.
-use Rattle.std.specs.Prelude.{ℕ, ◌+◌, ◌-◌, ◌*◌, ◌/◌, ◌%◌, ◌==◌, ◌&&◌, ◌||◌, nat_lt, nat_le, Bool, if◌then◌else◌, List, [], ◌∷◌, ◌++◌, Option, Some, None, Result, Ok, Err, slice_index, length, map}
+-- The text of a table, and why a text is no table.
+use Rattle.std.specs.Prelude.{ℕ, Option, Some, None, ◌+◌, ◌-◌, ◌*◌, ◌/◌, ◌%◌, ◌==◌, ◌&&◌, ◌||◌, nat_lt, nat_le, Bool, if◌then◌else◌, List, [], ◌∷◌, ◌++◌, Result, Ok, Err, slice_index, length, map}
 use Rattle.std.specs.List.{range_with_len, filter_map, join_with_byte}
+use Rattle.machine_text.specs.declared.grammar.TextFault.{TextFault}
+use Rattle.machine_text.specs.declared.grammar.TextFault.TheVariants.{BadLength, BadBar, BadSymbol, BadDir, BadState}
 use Rattle.machine_text.specs.Limits.{state_limit}
-use Rattle.machine_text.specs.declared.transition.Sym.{Sym}
-use Rattle.machine_text.specs.declared.transition.Sym.TheVariants.{Zero, One}
-use Rattle.machine_text.specs.declared.transition.Dir.{Dir}
-use Rattle.machine_text.specs.declared.transition.Dir.TheVariants.{L, R}
-use Rattle.machine_text.specs.declared.transition.Entry.{Entry}
-use Rattle.machine_text.specs.declared.faults.TextFault.{TextFault}
-use Rattle.machine_text.specs.declared.faults.TextFault.TheVariants.{BadLength, BadBar, BadSymbol, BadDir, BadState}
+use Rattle.machine_text.specs.declared.table.Sym.{Sym}
+use Rattle.machine_text.specs.declared.table.Sym.TheVariants.{Zero, One}
+use Rattle.machine_text.specs.declared.table.Dir.{Dir}
+use Rattle.machine_text.specs.declared.table.Dir.TheVariants.{L, R}
+use Rattle.machine_text.specs.declared.table.Entry.{Entry}
 use Rattle.machine_text.specs.Packed.{Packed, symbol_number, entry_of, tabulated}
 
+-- The refusal number of each fault of a text, and its place.
+abbrev pub text_fault_number : TextFault → ℕ
+text_fault_number BadLength = 101
+text_fault_number (BadBar i) = 102
+text_fault_number (BadSymbol i) = 103
+text_fault_number (BadDir i) = 104
+text_fault_number (BadState i) = 105
+
+abbrev pub place_of : TextFault → Option ℕ
+place_of BadLength = None
+place_of (BadBar i) = Some i
+place_of (BadSymbol i) = Some i
+place_of (BadDir i) = Some i
+place_of (BadState i) = Some i
+
+-- The text of a table in the bbchallenge standard format, which table a text names, and why a text is no
+-- table. Bytes are their ASCII codes: 45 `-`, 48 `0`, 49 `1`, 65 `A`, 72 `H`, 76 `L`, 82 `R`, 90 `Z`, 95 `_`.
 abbrev pub symbol_byte : Sym → ℕ
 symbol_byte Zero = 48
 symbol_byte One = 49

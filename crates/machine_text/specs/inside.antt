@@ -1,7 +1,7 @@
 -- What only the code needs: the text of a table byte by byte as it is written, and entry by entry as it is read; and the number
 -- that several bytes are.
 use Rattle.std.specs.Prelude.{ℕ, ◌+◌, ◌*◌, ◌/◌, ◌%◌, ◌==◌, ◌&&◌, Bool, if◌then◌else◌, List, [], ◌∷◌, Option, Some, None, slice_index, slice_set}
-use Rattle.machine_text.specs.declared.transition.Entry.{Entry}
+use Rattle.machine_text.specs.declared.table.Entry.{Entry}
 use Rattle.machine_text.specs.Packed.{Packed, symbol_of, code_of, entry_of}
 use Rattle.machine_text.specs.Text.{symbol_byte, direction_byte, may_begin, may_direct, may_end, entry_named}
 

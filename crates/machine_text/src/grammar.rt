@@ -1,15 +1,81 @@
-// Which table a text names, and why a text is no table.
+// Which table a text names, why a text is no table, and how the text of a table is written.
 ghost use Rattle.std.specs.Prelude.{◌≡◌, ◌≢◌, ℕ, ◌+◌, ◌*◌, ◌%◌, ◌^◌, ◌<◌, ◌≤◌, true, false, [], ◌∷◌, List, length, slice_index, IfSome, IfNone};
-ghost use Rattle.machine_text.specs.declared.faults.TextFault.{TextFault as Fault};
+ghost use Rattle.std.specs.Option.{ForSome};
+ghost use Rattle.machine_text.specs.declared.grammar.TextFault.{TextFault as Fault};
 ghost use Rattle.machine_text.specs.Text.{is_table_length, states_in, fault_at, faults_of, entry_named, table_named, may_begin, may_direct, may_end, is_state_letter, symbol_byte, direction_byte};
 ghost use Rattle.machine_text.specs.inside.{code_at, with_entry_bytes};
-ghost use Rattle.std.specs.Option.{ForSome};
 ghost use Rattle.machine_text.specs.Limits.{state_limit, text_byte_limit};
 
-use crate::code::Code;
-use crate::faults::TextFault;
 use crate::limits::{MAX_ENTRIES, MAX_STATES, TEXT_BYTES};
-use crate::transition::{Dir, Entry, State, Sym};
+use crate::table::{Code, Dir, Entry, State, Sym};
+use std::error::Error;
+use std::fmt;
+
+/// Why a text is no table. A place counts the bytes before it; the fault is the one at the leftmost
+/// faulty place, and the length is judged before any place.
+#[derive(Clone, Copy, Debug, PartialEq, Eq)]
+pub enum TextFault {
+    /// The length is that of no number of states.
+    BadLength,
+    /// Two rows aren't parted by `_` there.
+    BadBar(usize),
+    /// An entry begins there with none of `0`, `1` and `-`.
+    BadSymbol(usize),
+    /// The direction there is neither `L` nor `R`, or not `-` in an undefined entry.
+    BadDir(usize),
+    /// There stands no letter of a state, `Z` or `H`, or not `-` in an undefined entry.
+    BadState(usize),
+}
+
+impl TextFault {
+    ghost use Rattle.std.specs.Prelude.{◌≡◌};
+    ghost use Rattle.machine_text.specs.Text.{text_fault_number, place_of};
+
+    /// The refusal number: 101 to 105.
+    pub fn number(&self) -> u16
+        ensures { result ≡ text_fault_number self.now }
+    {
+        match self {
+            TextFault::BadLength => 101,
+            TextFault::BadBar(_) => 102,
+            TextFault::BadSymbol(_) => 103,
+            TextFault::BadDir(_) => 104,
+            TextFault::BadState(_) => 105,
+        }
+    }
+
+    /// The place of the fault; none for a length.
+    pub fn place(&self) -> Option<usize>
+        ensures { result ≡ place_of self.now }
+    {
+        match *self {
+            TextFault::BadLength => None,
+            TextFault::BadBar(place)
+            | TextFault::BadSymbol(place)
+            | TextFault::BadDir(place)
+            | TextFault::BadState(place) => Some(place),
+        }
+    }
+}
+
+impl fmt::Display for TextFault {
+    fn fmt<W: fmt::Write>(&self, f: &mut fmt::Formatter<W>) -> fmt::Result {
+        match self {
+            TextFault::BadLength => write!(f, "no table's text has this length"),
+            TextFault::BadBar(place) => write!(f, "no `_` between two rows at byte {place}"),
+            TextFault::BadSymbol(place) => {
+                write!(
+                    f,
+                    "none of `0`, `1` and `-` begins the entry at byte {place}"
+                )
+            }
+            TextFault::BadDir(place) => write!(f, "no direction at byte {place}"),
+            TextFault::BadState(place) => write!(f, "no state at byte {place}"),
+        }
+    }
+}
+
+impl Error for TextFault {}
 
 /// How many states a text of this length has; none where that is no table's length.
 pub(crate) fn states_in(text: &[u8]) -> Option<u8>

@@ -2,8 +2,8 @@
 ghost use Rattle.std.specs.Prelude.{◌≡◌, ℕ, ◌<◌, Option};
 ghost use Rattle.std.specs.Ordering.{nat_cmp};
 ghost use Rattle.std.specs.Cmp.Lexicographic.{slice_cmp};
-ghost use Rattle.machine_text.specs.declared.transition.Sym.{Sym as Symbol};
-ghost use Rattle.machine_text.specs.declared.transition.Entry.{Entry};
+ghost use Rattle.machine_text.specs.declared.table.Sym.{Sym as Symbol};
+ghost use Rattle.machine_text.specs.declared.table.Entry.{Entry};
 ghost use Rattle.machine_text.specs.Packed.{Packed, IsTable, IsMapOf, entry_of, tabulated, filled};
 ghost use Rattle.machine_text.specs.Text.{text_of};
 

@@ -1,16 +1,109 @@
-// A table, one byte an entry.
-ghost use Rattle.std.specs.Prelude.{◌≡◌, ℕ, None, ◌==◌, ◌+◌, ◌*◌, ◌<◌, ◌≤◌, ◌≢◌, IfSome, Ok, [], ◌∷◌, ◌++◌, length, take, drop, slice_index, EachIndex, count_by};
+// A table, one byte an entry, and its parts: states, symbols, directions, pairs and entries.
+ghost use Rattle.std.specs.Prelude.{◌≡◌, ◌==◌, ◌<◌, ℕ, None, ◌+◌, ◌*◌, ◌≤◌, ◌≢◌, IfSome, Ok, [], ◌∷◌, ◌++◌, length, take, drop, slice_index, EachIndex, count_by};
+ghost use Rattle.std.specs.Option.{ForSome};
+ghost use Rattle.machine_text.specs.Packed.{code_of, coded_entry, pair_place};
 ghost use Rattle.machine_text.specs.Limits.{state_limit, text_byte_limit};
-ghost use Rattle.machine_text.specs.Packed.{pair_place};
 ghost use Rattle.machine_text.specs.inside.{word_of};
 
-use crate::code::Code;
-use crate::faults::TextFault;
 use crate::grammar;
+use crate::grammar::TextFault;
 use crate::limits::{MAX_ENTRIES, TEXT_BYTES};
-use crate::transition::{Dir, Entry, State, Sym};
 use std::cmp::Ordering;
 use std::marker::Model;
+
+/// A state by its number: 0 is A, the state in which each run starts.
+#[derive(Clone, Copy, Debug, PartialEq, Eq, PartialOrd, Ord, Hash)]
+pub struct State(pub u8);
+
+/// One of the two symbols of the tape; the blank one is `Zero`.
+#[derive(Clone, Copy, Debug, PartialEq, Eq, PartialOrd, Ord, Hash)]
+pub enum Sym {
+    Zero,
+    One,
+}
+
+/// The direction of a move.
+#[derive(Clone, Copy, Debug, PartialEq, Eq, PartialOrd, Ord, Hash)]
+pub enum Dir {
+    L,
+    R,
+}
+
+/// A pair of a state and a symbol read: a table has an entry or none at it.
+#[derive(Clone, Copy, Debug, PartialEq, Eq, PartialOrd, Ord, Hash)]
+pub struct Pair {
+    pub state: State,
+    pub symbol: Sym,
+}
+
+/// What a machine does on one pair of a state and a symbol read.
+#[derive(Clone, Copy, Debug, PartialEq, Eq, PartialOrd, Ord, Hash)]
+pub struct Entry {
+    pub write: Sym,
+    pub dir: Dir,
+    pub next: State,
+}
+
+/// An entry or none as one byte, which rises as the text of the entry does; 0 is for none.
+#[derive(Clone, Copy, Debug, PartialEq, Eq, PartialOrd, Ord, Hash)]
+pub(crate) struct Code {
+    byte: u8,
+}
+
+impl Model for Code {
+    ghost use Rattle.std.specs.Prelude.{ℕ};
+
+    ghost Value = { ℕ };
+
+    ghost view = { λ a. a.byte };
+
+    ghost inverse = { λ n. record { byte = n } };
+}
+
+impl Code {
+    /// The code of an undefined entry.
+    pub const UNDEFINED: Code = Code { byte: 0 };
+
+    /// The code of an entry.
+    pub fn of(e: Option<Entry>) -> Code
+        requires { ForSome e (λ e. e.next.0 < 8) }
+        ensures { result ≡ code_of e }
+    {
+        let byte = match e {
+            None => 0,
+            Some(e) => 16 * e.write as u8 + 8 * e.dir as u8 + e.next.0 + 1,
+        };
+        Code { byte }
+    }
+
+    /// The entry whose code this is, or none.
+    #[inline]
+    pub fn entry(self) -> Option<Entry>
+        ensures { result ≡ coded_entry self }
+    {
+        let bits = self.byte.checked_sub(1)?;
+        Some(Entry {
+            write: if bits / 16 == 0 { Sym::Zero } else { Sym::One },
+            dir: if bits / 8 % 2 == 0 { Dir::L } else { Dir::R },
+            next: State(bits % 8),
+        })
+    }
+
+    /// The byte itself.
+    #[inline]
+    pub fn byte(self) -> u8
+        ensures { result ≡ self }
+    {
+        self.byte
+    }
+
+    /// Whether the code is that of no entry.
+    pub fn is_undefined(self) -> bool
+        ensures { result ≡ (self == 0) }
+    {
+        self.byte == 0
+    }
+}
 
 /// The table of an n-state two-symbol machine (Radó 1962): at each pair of a state and a symbol read
 /// an entry or none. A pair without an entry halts.
@@ -39,8 +132,7 @@ impl PartialOrd for Table {
     ghost use Rattle.std.specs.Ordering.{as_partial_cmp};
     ghost use Rattle.std.specs.Cmp.Rules.{comparing};
     ghost use Rattle.std.proofs.Common.{rules};
-    ghost use Rattle.machine_text.specs.Order.{table_cmp};
-    ghost use Rattle.machine_text.specs.OrderLaws.{table_ties};
+    ghost use Rattle.machine_text.specs.Packed.{table_cmp, table_ties};
 
     ghost partial_cmp = { as_partial_cmp table_cmp };
 
@@ -55,8 +147,7 @@ impl PartialOrd for Table {
 impl Ord for Table {
     ghost use Rattle.std.specs.Cmp.Rules.{comparing};
     ghost use Rattle.std.proofs.Common.{rules};
-    ghost use Rattle.machine_text.specs.Order.{table_cmp};
-    ghost use Rattle.machine_text.specs.OrderLaws.{table_ties};
+    ghost use Rattle.machine_text.specs.Packed.{table_cmp, table_ties};
 
     ghost cmp = { table_cmp };
 
@@ -74,7 +165,7 @@ impl Ord for Table {
 
 impl Table {
     ghost use Rattle.machine_text.specs.Packed.{IsTable, entry_of, filled, with_entry, empty_table, holes};
-    ghost use Rattle.machine_text.specs.declared.transition.Sym.{Sym as Symbol};
+    ghost use Rattle.machine_text.specs.declared.table.Sym.{Sym as Symbol};
     ghost use Rattle.machine_text.specs.Text.{table_of, text_of};
 
     /// The table of n states in which each pair is undefined.

@@ -1,6 +1,3 @@
-pub mod Sorted
-pub mod Texts
 pub mod Closed
-pub mod Tested
-pub mod Bytes
+pub mod Texts
 pub mod KindLaws

@@ -5,13 +5,12 @@ use Rattle.std.proofs.lemmas.List.{length-map, map-append, length-append, length
 use Rattle.std.proofs.Math.Seq.{drop-append-add, take-append_seam, drop-cons}
 use Rattle.std.proofs.lemmas.Bool.{cases_eq}
 use Rattle.std.proofs.lemmas.Bool.Decides.{nat_tests}
-use Rattle.machine_text.specs.declared.transition.Sym.{Sym}
-use Rattle.machine_text.specs.declared.transition.Sym.TheVariants.{Zero, One}
-use Rattle.machine_text.specs.Packed.{symbol_of}
-use Rattle.machine_text.specs.Text.{symbol_byte}
-use Rattle.law_turing.specs.PositionSet.{Local}
+use Rattle.machine_text.specs.declared.table.Sym.{Sym}
+use Rattle.machine_text.specs.declared.table.Sym.TheVariants.{Zero, One}
+use Rattle.machine_text.specs.Terms.{symbol_of, symbol_byte}
+use Rattle.law_turing.specs.Terms.{Local}
 use Rattle.ngram_cps.specs.Words.{word_text, local_text, is_digit, IsWordText, IsLocalText}
-use Rattle.ngram_cps.specs.inside.Steps.{left_after, right_seen, local_right, right_after, left_seen, local_left}
+use Rattle.ngram_cps.specs.inside.{left_after, right_seen, local_right, right_after, left_seen, local_left}
 
 -- lists one behind the other, where the first has n elements
 drop_past : (n k : ℕ) (xs ys : List ℕ) → length xs ≡ n → drop (n + k) (xs ++ ys) ≡ drop k ys

@@ -1,17 +1,14 @@
 -- Closed position sets as a kind of certificates: how their fields are read and written, what they mean, and their law.
 use Rattle.std.specs.Prelude.{ℕ, ◌+◌, ◌&&◌, not, nat_lt, if◌then◌else◌, List, [], ◌∷◌, Option, Some, None, Result, Ok, Err, length, decimal, ◌≡◌, codes}
-use Rattle.text.specs.Decimal.{decimal_value}
-use Rattle.text.specs.Fields.{with_value}
+use Rattle.text.specs.Terms.{decimal_value, with_value}
 use Rattle.text.specs.declared.fields.FieldFault.{FieldFault}
 use Rattle.text.specs.declared.fields.FieldFault.TheVariants.{BadKind, BadList, TooLong}
-use Rattle.machine_text.specs.Packed.{entry_of}
+use Rattle.machine_text.specs.Terms.{entry_of}
 use Rattle.law_turing.proofs.ClosedSets.{closed_never}
-use Rattle.kind_evidence.specs.Kind.{Kind}
+use Rattle.kind_evidence.specs.Terms.{Kind}
 use Rattle.ngram_cps.specs.Limits.{width_limit, list_byte_limit}
-use Rattle.ngram_cps.specs.Lists.{Lists, lists, AreLists, AreWithin, IsLocalItem, IsPositionSet}
-use Rattle.ngram_cps.specs.Tests.{are_lists}
-use Rattle.ngram_cps.specs.Listing.{IsItem}
-use Rattle.ngram_cps.specs.Words.{word_text}
+use Rattle.ngram_cps.specs.Lists.{Lists, lists, AreLists, AreWithin, IsLocalItem, IsPositionSet, are_lists}
+use Rattle.ngram_cps.specs.Words.{IsItem, word_text}
 
 -- a width of words
 abbrev pub width_in : Option ℕ → Option ℕ

@@ -1,9 +1,6 @@
 pub mod Limits
-pub mod Listing
 pub mod Words
 pub mod Lists
-pub mod Tests
 pub mod Kind
-pub mod Ngram
-pub mod Owned
 pub mod inside
+pub mod Terms

@@ -1,9 +1,31 @@
+-- Lists in a text, and words and local configurations as texts.
+use Rattle.std.specs.declared.cmp.Ordering.TheVariants.{Less}
+use Rattle.std.specs.Prelude.{◌≡◌, ℕ, ◌+◌, ◌*◌, ◌<◌, ◌≤◌, List, length, take, drop, slice_index, ◌==◌, ◌||◌, Bool, IsTrue, ◌∷◌, ◌++◌, map}
+use Rattle.std.specs.Ordering.{nat_cmp}
+use Rattle.std.specs.Cmp.Lexicographic.{slice_cmp}
+use Rattle.machine_text.specs.declared.table.Sym.{Sym}
+use Rattle.machine_text.specs.Terms.{symbol_byte}
+use Rattle.law_turing.specs.Terms.{Local}
+
+-- A list in a text: items of one width, with a comma between each two.
+
+-- the item at a place: each stands behind the one before and its comma
+abbrev pub item : ℕ → List ℕ → ℕ → List ℕ
+item w text k = take w (drop (k * (w + 1)) text)
+
+-- the text is so many items, strictly rising by bytes
+pub record IsListing (w count : ℕ) (text : List ℕ) : Type 0 where
+  pub size : length text + 1 ≡ count * (w + 1)
+  pub commas : (k : ℕ) → k + 1 < count → slice_index text (k * (w + 1) + w) ≡ 44
+  pub rising : (k : ℕ) → k + 1 < count → slice_cmp nat_cmp (item w text k) (item w text (k + 1)) ≡ Less
+
+-- these bytes are an item of the text
+pub record IsItem (w : ℕ) (text bytes : List ℕ) : Type 0 where
+  pub place : ℕ
+  pub within : place * (w + 1) + w ≤ length text
+  pub is : item w text place ≡ bytes
+
 -- Words and local configurations as texts.
-use Rattle.std.specs.Prelude.{ℕ, ◌+◌, ◌*◌, ◌<◌, ◌≤◌, ◌==◌, ◌||◌, Bool, IsTrue, List, ◌∷◌, ◌++◌, length, take, drop, map, slice_index}
-use Rattle.machine_text.specs.declared.transition.Sym.{Sym}
-use Rattle.machine_text.specs.Text.{symbol_byte}
-use Rattle.law_turing.specs.PositionSet.{Local}
-use Rattle.ngram_cps.specs.Listing.{item, IsListing}
 
 -- a word: its symbols as they stand on the tape, `0` and `1`
 abbrev pub word_text : List Sym → List ℕ

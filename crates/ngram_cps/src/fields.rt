@@ -1,16 +1,134 @@
-// Lists as the fields of a record.
-ghost use Rattle.std.specs.Prelude.{◌≡◌, ◌≤◌, ◌++◌, length, take, Some, None, OnOk, IfOk, IfErr};
-ghost use Rattle.machine_text.specs.Limits.{state_limit};
-ghost use Rattle.text.specs.Decimal.{decimal_value};
-ghost use Rattle.text.specs.Fields.{spaced, made_of};
+// Lists as the fields of a record, and the texts of a set.
+ghost use Rattle.std.specs.Prelude.{◌≡◌, ◌+◌, ◌<◌, ◌≤◌, [], ◌∷◌, ◌++◌, length, take, List, ℕ, Some, None, OnOk, IfOk, IfErr};
+ghost use Rattle.machine_text.specs.Terms.{state_limit};
+ghost use Rattle.text.specs.Terms.{decimal_value, spaced, made_of};
 ghost use Rattle.ngram_cps.specs.Kind.{width_in, lists_by, ngram_by, ngram_fields};
 ghost use Rattle.ngram_cps.specs.Limits.{width_limit};
-ghost use Rattle.ngram_cps.specs.Lists.{lists, AreLists, AreWithin};
-ghost use Rattle.ngram_cps.specs.Ngram.{lists_of};
+ghost use Rattle.ngram_cps.specs.Lists.{lists, AreLists, AreWithin, lists_of};
 
+use crate::closure::symbol_byte;
+use crate::least_set::{LeastSet, Side};
 use crate::ngram::Ngram;
+use crate::words::{Member, Width};
 use kind_evidence::NoMemory;
+use std::alloc::Global;
+use std::marker::Model;
 use text::{FieldFault, Parts, append_field, append_number_field, end_of, next_field, number_in};
+
+// Up to 18 bytes: a local configuration of the greatest width. It stands where it is made, and takes no memory.
+#[derive(Drop)]
+pub(crate) struct Draft {
+    bytes: [u8; 18],
+    len: usize,
+}
+
+impl Model for Draft {
+    ghost Value = { List ℕ };
+
+    ghost view = { λ a. take a.len a.bytes };
+
+    ghost invariant = { λ a. a.len ≤ 18 };
+}
+
+impl Draft {
+    pub fn new() -> Draft
+        ensures { result ≡ [] }
+    {
+        Draft {
+            bytes: [0; 18],
+            len: 0,
+        }
+    }
+
+    pub fn push(&mut self, byte: u8)
+        requires { length self.old < 18 }
+        ensures { self.new ≡ self.old ++ byte ∷ [] }
+    {
+        self.bytes[self.len] = byte;
+        self.len += 1;
+    }
+
+    pub fn push_all(&mut self, part: &[u8])
+        requires { length self.old + length part.now ≤ 18 }
+        ensures { self.new ≡ self.old ++ part.now }
+    {
+        for byte in part {
+            self.push(*byte);
+        }
+    }
+
+    pub fn as_slice(&self) -> &[u8]
+        ensures { result.now ≡ self.now }
+    {
+        &self.bytes[..self.len]
+    }
+}
+
+// The three lists of a set as texts. Their memory is kept from set to set.
+#[derive(Drop)]
+pub(crate) struct ListTexts {
+    pub left: Vec<u8>,
+    pub right: Vec<u8>,
+    pub local: Vec<u8>,
+}
+
+impl ListTexts {
+    // Takes no memory.
+    pub fn new(alloc: Global) -> ListTexts {
+        ListTexts {
+            left: Vec::new(alloc),
+            right: Vec::new(alloc),
+            local: Vec::new(alloc),
+        }
+    }
+
+    // Writes the lists of a set of a width.
+    pub fn write(&mut self, set: &mut LeastSet, width: Width) -> Result<(), NoMemory> {
+        write_words(&mut self.left, &set.left, width)?;
+        write_words(&mut self.right, &set.right, width)?;
+        write_members(&mut self.local, set.members.sorted(), width)
+    }
+}
+
+// Writes the words of a side.
+fn write_words(text: &mut Vec<u8>, side: &Side, width: Width) -> Result<(), NoMemory> {
+    text.clear();
+    for word in 0..=width.greatest() {
+        if side.holds(word) {
+            push_comma(text)?;
+            push_word(text, word, width)?;
+        }
+    }
+    Ok(())
+}
+
+// Writes members in their order.
+fn write_members(text: &mut Vec<u8>, members: &[Member], width: Width) -> Result<(), NoMemory> {
+    text.clear();
+    for member in members {
+        push_comma(text)?;
+        push_word(text, member.left, width)?;
+        text.push(b'A' + member.state.0)?;
+        text.push(symbol_byte(member.read))?;
+        push_word(text, member.right, width)?;
+    }
+    Ok(())
+}
+
+// A comma, where an item stands before.
+fn push_comma(text: &mut Vec<u8>) -> Result<(), NoMemory> {
+    if !text.is_empty() {
+        text.push(b',')?;
+    }
+    Ok(())
+}
+
+fn push_word(text: &mut Vec<u8>, word: u8, width: Width) -> Result<(), NoMemory> {
+    for place in (0..width.symbols).rev() {
+        text.push(if word >> place & 1 == 0 { b'0' } else { b'1' })?;
+    }
+    Ok(())
+}
 
 impl<'a> Ngram<'a> {
     /// The claim that the fields of a record make, for a table of so many states: `g L R C`. Takes no memory.

@@ -1,15 +1,13 @@
 // The search for a closed position set.
 ghost use Rattle.std.specs.Prelude.{◌≡◌, ◌≤◌, min, IfSome, IfOk};
 ghost use Rattle.ngram_cps.specs.Limits.{width_limit};
-ghost use Rattle.ngram_cps.specs.Lists.{AreClosedLists};
-ghost use Rattle.ngram_cps.specs.Owned.{owned_lists};
+ghost use Rattle.ngram_cps.specs.Lists.{AreClosedLists, owned_lists};
 
+use crate::fields::ListTexts;
 use crate::least_set::LeastSet;
 use crate::limits::{MAX_LIST_BYTES, MAX_WIDTH};
-use crate::list_texts::ListTexts;
-use crate::ngram::Ngram;
-use crate::owned::OwnedNgram;
-use crate::word::Width;
+use crate::ngram::{Ngram, OwnedNgram};
+use crate::words::Width;
 use kind_evidence::NoMemory;
 use machine_text::Table;
 use std::alloc::Global;

@@ -1,9 +1,8 @@
 // What is so of all lists: laws over the definitions, each the contract of a function without a body.
 ghost use Rattle.std.specs.Prelude.{◌≤◌, Decides, All};
-ghost use Rattle.kind_evidence.specs.Kind.{IsKind};
+ghost use Rattle.kind_evidence.specs.Terms.{IsKind};
 ghost use Rattle.ngram_cps.specs.Kind.{ngram_kind};
-ghost use Rattle.ngram_cps.specs.Lists.{Lists, AreLists};
-ghost use Rattle.ngram_cps.specs.Tests.{are_lists};
+ghost use Rattle.ngram_cps.specs.Lists.{Lists, AreLists, are_lists};
 
 /// The test of three texts answers true exactly where they are lists.
 pub fn lists_are_tested()

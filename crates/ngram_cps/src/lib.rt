@@ -1,39 +1,27 @@
 //! Closed position sets (n-gram CPS): evidence that a table never halts.
 //!
-//! Three sorted lists in text: words that may stand on the left of a head, words that may stand on the right,
-//! and local configurations that may stand around it. Where they hold the blank tape, and no step of the table
-//! leaves them, the table never halts: from the blank tape, and from any other whose words are all among them.
-//! law_turing's `PositionSet` says so; `specs/` adds what a list is (`Listing`, `Words`), when three lists are a
-//! closed position set of a table (`Lists`), the same as tests (`Tests`), how they are written in a record
-//! and what they mean as a kind of certificates (`Kind`), and the limits as numbers (`Limits`). `specs/inside` is for the crate's own code.
+//! Three sorted lists in text: words that may stand on the left of a head, words that may stand on the right, and
+//! local configurations that may stand around it. Where they hold the blank tape, and no step of the table leaves
+//! them, the table never halts: from the blank tape, and from any other whose words are all among them. law_turing's
+//! `NeverHalting` says so; `specs/Words` adds what a list is, `Lists` when three lists are a closed position set of a
+//! table, and which a claim holds, `Kind` how they are written in a record and what they mean as a kind of
+//! certificates, `Limits` how large they may be. `inside` is for the crate's own code.
 //!
-//! `Ngram` borrows its lists and judges them where they stand, without memory. `OwnedNgram` keeps the text of
-//! its lists. `NgramFinder` searches lists; what it computes (`least_set`) isn't trusted but judged.
+//! `Ngram` borrows its lists and judges them where they stand, without memory. `OwnedNgram` keeps the text of its
+//! lists. `NgramFinder` searches lists; what it computes (`least_set`) isn't trusted but judged.
 #![tactic(auto)]
 
-mod arrival;
-mod bit_set;
 mod closure;
-mod draft;
 mod fields;
 mod finder;
 mod laws;
 mod least_set;
 mod limits;
-mod list_texts;
-mod listing;
-mod local_list;
-mod member;
-mod members;
+mod lists;
 mod ngram;
-mod owned;
-mod side;
-mod step_text;
-mod word;
-mod word_list;
+mod words;
 
 pub use finder::NgramFinder;
 pub use laws::{list_texts_are_high, lists_are_tested, position_sets_are_a_kind};
 pub use limits::{MAX_LIST_BYTES, MAX_WIDTH};
-pub use ngram::Ngram;
-pub use owned::OwnedNgram;
+pub use ngram::{Ngram, OwnedNgram};

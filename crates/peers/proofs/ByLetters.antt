@@ -3,30 +3,21 @@ use Rattle.std.proofs.Common.{◌≡◌, ◌∙◌, refl, sym, subst, ap, ℕ, �
 use Rattle.std.specs.Prelude.{Option, Some, None, Result, Ok, Err, codes, decimal, nat_lt}
 use Rattle.std.specs.Str.{bytes_eq}
 use Rattle.std.proofs.lemmas.Slice.Eq.{bytes_eq-Decides}
-use Rattle.text.specs.Cut.{cut_at}
-use Rattle.text.specs.Decimal.{decimal_value}
-use Rattle.text.specs.Fields.{made_of}
-use Rattle.text.specs.Limits.{line_byte_limit}
-use Rattle.text.specs.Parts.{parts_of}
+use Rattle.text.specs.Terms.{cut_at, decimal_value, made_of, parts_of, line_byte_limit}
 use Rattle.text.specs.declared.fields.FieldFault.{FieldFault}
 use Rattle.text.proofs.Cuts.{cut-append, split_at_cut, split_nowhere}
-use Rattle.text.proofs.Numbers.{decimal_without}
-use Rattle.machine_text.specs.declared.faults.TextFault.{TextFault}
-use Rattle.machine_text.specs.Packed.{Packed}
-use Rattle.machine_text.specs.Text.{table_of, text_of}
-use Rattle.run.specs.Fields.{halts_by}
+use Rattle.text.proofs.DecimalFields.{decimal_without}
+use Rattle.machine_text.specs.declared.grammar.TextFault.{TextFault}
+use Rattle.machine_text.specs.Terms.{Packed, table_of, text_of}
+use Rattle.run.specs.Terms.{halts_by}
 use Rattle.run.specs.declared.reach.Reach.TheVariants.{Early, Late}
-use Rattle.cert.specs.Claim.{Claim, HaltsClaim, NeverClaim, NoClaim, Recorded}
-use Rattle.cert.specs.Reason.{reason_by}
-use Rattle.cert.specs.Limits.{record_byte_limit}
-use Rattle.cert.specs.declared.record_fault.RecordFault.{RecordFault}
-use Rattle.cert.specs.declared.record_fault.RecordFault.TheVariants.{TooLong}
-use Rattle.cert.specs.Grammar.{claim_from, record_after, record_from, record_of, record_with, undecided_by}
-use Rattle.wire.specs.declared.message_fault.MsgFault.TheVariants.{TooLong as TooLongLine}
-use Rattle.wire.specs.Message.{Message, Ask, Grant, Rec, Ack, Later, Done, Stop}
-use Rattle.wire.specs.Grammar.{◌>>=◌, ack_in, ask_in, done_in, grant_in, later_in, message_by, message_in, message_of, message_text, or_bad, read_record, read_table, rec_in}
+use Rattle.cert.specs.Terms.{Claim, HaltsClaim, NeverClaim, NoClaim, Recorded, reason_by, record_byte_limit, claim_from, record_after, record_from, record_of, record_with, undecided_by}
+use Rattle.cert.specs.declared.record.RecordFault.{RecordFault}
+use Rattle.cert.specs.declared.record.RecordFault.TheVariants.{TooLong}
+use Rattle.wire.specs.declared.messages.MsgFault.TheVariants.{TooLong as TooLongLine}
+use Rattle.wire.specs.Terms.{Message, Ask, Grant, Rec, Ack, Later, Done, Stop, ◌>>=◌, ack_in, ask_in, done_in, grant_in, later_in, message_by, message_in, message_of, message_text, or_bad, read_record, read_table, rec_in}
 use Rattle.peers.specs.Guard.{asked_id, granted, is_holdout, says_nothing}
-use Rattle.peers.specs.Letters.{asked_by, gives_up, is_no_claim}
+use Rattle.peers.specs.Frames.{asked_by, gives_up, is_no_claim}
 
 some_same : {X : Type 0} (x y : X) → Some x ≡ Some y → x ≡ y
 some_same x y e = cc

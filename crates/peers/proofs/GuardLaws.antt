@@ -1,20 +1,26 @@
--- What a guard keeps to, whatever line comes.
-use Rattle.std.proofs.Common.{arith, ◌≡◌, ◌∙◌, refl, sym, subst, ap, inl, inr, ℕ, ◌<◌, ◌≤◌, zero, suc, Bool, true, false, cond, List, [], ◌∷◌, ◌++◌, length, length-append, map, set, get_or}
-use Rattle.std.specs.Prelude.{◌⊎◌, Option, Some, None, nat_lt, remove}
+-- What a guard keeps to, whatever line comes, and what it made of the lines of a piece.
+use Rattle.std.proofs.Common.{arith, ◌≡◌, ◌∙◌, refl, sym, subst, ap, inl, inr, ℕ, ◌<◌, ◌≤◌, zero, suc, Bool, true, false, cond, List, [], ◌∷◌, ◌++◌, length, length-append, map, set, get_or, append-nil, append_assoc}
+use Rattle.std.specs.Prelude.{◌⊎◌, Option, Some, None, nat_lt, remove, Ok}
 use Rattle.std.specs.List.{All, Any, Contains}
 use Rattle.std.proofs.lemmas.Bool.Decides.{nat_tests}
 use Rattle.std.proofs.lemmas.List.{length-set, get_or-set_same}
 use Rattle.std.proofs.lemmas.List.Quantifiers.{Any-push}
 use Rattle.std.proofs.lemmas.List.Elements.{All-cons, All-contains, All-contains_itself, All-head, All-push, All-set, All-tail, All-weaker, Contains-get_or}
 use Rattle.wire.specs.declared.node.Out.{Out}
-use Rattle.wire.specs.Fulfilled.{Reply}
-use Rattle.wire.specs.Happening.{Happening, Came}
-use Rattle.peers.specs.declared.dismissal.Dismissal.{Dismissal}
-use Rattle.peers.specs.declared.passage.Passage.{Passage}
-use Rattle.peers.specs.declared.passage.Passage.TheVariants.{Whole, Ask, GiveBack, Later, Holdout, Nothing}
+use Rattle.wire.specs.Terms.{Reply, Happening, Came, grown, event_of, events_of, frame_of, Answering, Fulfilled, Scene, cut_by, fulfilled, kept_text, scene, sent_by}
+use Rattle.peers.specs.declared.guard.Dismissal.{Dismissal}
+use Rattle.peers.specs.declared.guard.Passage.{Passage}
+use Rattle.peers.specs.declared.guard.Passage.TheVariants.{Whole, Ask, GiveBack, Later, Holdout, Nothing}
 use Rattle.peers.specs.Limits.{peer_lease_limit}
 use Rattle.peers.specs.Guard.{ArePassed, AskerState, GuardState, Guards, HandsLine, IsAsk, IsHanded, IsHonest, IsKnownThen, IsOwnOf, IsReturn, IsToldThen, IsToldBy, Knows, PassesLine, asked_id, granted, later_frame}
 use Rattle.peers.specs.Passing.{Forgets, IsPlaceFor, IsPassage, Remembers, Tells, asker_at, gone_back, handed_line, heard_out, nobody, or_none, put_at}
+use Rattle.text.specs.Terms.{BoundedLine}
+use Rattle.peers.specs.declared.guarded.Guarded.{Guarded}
+use Rattle.peers.specs.Peers.{Through, PeerState}
+use Rattle.peers.specs.Served.{Served, Hears, AnswersWhereThere, let_go}
+use Rattle.peers.specs.declared.guard.Dismissed.{Dismissed}
+
+-- What a guard keeps to, whatever line comes.
 
 -- 1. What the node is handed
 
@@ -78,11 +84,11 @@ few_put place asker askers room few = by_test (nat_lt place (length askers)) ref
 
 -- 3. What the peer is told
 
-answered : (takes : Bool) (guard : GuardState) (line : List ℕ) (out : Out) (told : List ℕ) (askers : List AskerState) (new : GuardState)
+line_answered : (takes : Bool) (guard : GuardState) (line : List ℕ) (out : Out) (told : List ℕ) (askers : List AskerState) (new : GuardState)
     → told ≡ out.frames.items → Knows guard line line told askers
     → ((lease : List ℕ) → IsAsk line → granted told ≡ Some lease → IsReturn askers lease) → new ≡ heard_out out (record guard { askers = askers })
     → IsToldThen takes guard line line out told new
-answered takes guard line out told askers new is knows keeps after =
+line_answered takes guard line out told askers new is knows keeps after =
     subst (λ (n : GuardState). IsToldThen takes guard line line out told n) (sym after) (inl (refl, is, knows, keeps, refl))
 
 -- no lease is granted to who doesn't ask
@@ -107,22 +113,22 @@ return_put place asker askers lease room has = by_test (nat_lt place (length ask
 forgotten : (takes : Bool) (guard : GuardState) (line : List ℕ) (out : Out) (told : List ℕ) (at new : GuardState)
     → asked_id line ≡ None → told ≡ out.frames.items → Forgets guard at → new ≡ heard_out out at → IsToldThen takes guard line line out told new
 forgotten takes guard line out told at new unasked is (inl same) after =
-    answered takes guard line out told guard.askers new is (same_known guard line line told) (ungranted line told guard.askers unasked) (after ∙ ap (heard_out out) same)
+    line_answered takes guard line out told guard.askers new is (same_known guard line line told) (ungranted line told guard.askers unasked) (after ∙ ap (heard_out out) same)
 forgotten takes guard line out told at new unasked is (inr (place, less)) after =
-    answered takes guard line out told (remove guard.askers place) new is (less_known guard line line told place)
+    line_answered takes guard line out told (remove guard.askers place) new is (less_known guard line line told place)
     (ungranted line told (remove guard.askers place) unasked) (after ∙ ap (heard_out out) less)
 
 remembered : (takes : Bool) (guard : GuardState) (line : List ℕ) (id place : ℕ) (out : Out) (told : List ℕ) (at new : GuardState)
     → asked_id line ≡ Some id → IsPlaceFor guard place → told ≡ out.frames.items → Remembers id place out.frames.items guard at → new ≡ heard_out out at
     → IsToldThen takes guard line line out told new
 remembered takes guard line id place out told at new asked room is (inl (none, same)) after =
-    answered takes guard line out told guard.askers new is (same_known guard line line told)
+    line_answered takes guard line out told guard.askers new is (same_known guard line line told)
     (λ lease ask grants. absurd (let e : None ≡ Some lease = sym none ∙ ap granted (sym is) ∙ grants in cc)) (after ∙ ap (heard_out out) same)
 remembered takes guard line id place out told at new asked room is (inr (lease, grants, more)) after =
     let asker : AskerState = record { id = id; returning = Some lease; records = guard.records } in
     let grants0 : granted told ≡ Some lease = ap granted is ∙ grants in
     let known : IsKnownThen guard line line told asker = inr (inr (asked, refl, (lease, refl, ap granted is ∙ grants))) in
-    answered takes guard line out told (put_at place asker guard.askers) new is (
+    line_answered takes guard line out told (put_at place asker guard.askers) new is (
       all_put (IsKnownThen guard line line told) place asker guard.askers known (same_known guard line line told).0,
       few_put place asker guard.askers room,
     )
@@ -277,3 +283,104 @@ stay_few takes guard new [] (next ∷ others) none few = absurd none
 stay_few takes guard new (reply ∷ replies) [] none few = absurd none
 stay_few takes guard new (reply ∷ replies) (next ∷ others) (at, (line, frame, came, goes, passes), guards) few =
     stay_few takes at new replies others guards (few_told guard.dismissal takes guard line frame next.out reply.out.frames.items at passes.told few)
+
+-- A piece that was taken whole: what the guard made of its lines, one after another.
+
+-- what is told has the ledger's part of the answer
+kept_same : (out said : Out) (text : Option (List ℕ)) → said.cut ≡ out.cut → said.append.items ≡ out.append.items
+    → kept_text said text ≡ kept_text out text
+kept_same out said None cut append = refl
+kept_same out said (Some text) cut append =
+    ap (λ (c : Option ℕ). Some (cut_by c text ++ said.append.items)) cut ∙ ap (λ (l : List ℕ). Some (cut_by out.cut text ++ l)) append
+
+-- the lines of a peer that were fulfilled through its guard
+record Unguarded {N : Type 0} (answers : Answering N) (old : Scene (Guarded N)) (replies : List Reply) (new : Scene (Guarded N)) : Type 0 where
+  handed : List Reply
+  guarded : Guards old.node.conduct.takes_holdouts old.node.guard replies handed new.node.guard
+  whole : Fulfilled answers (scene old.node.node old.text None) handed (scene new.node.node new.text None)
+  conduct : new.node.conduct ≡ old.node.conduct
+
+head_same : {X : Type 0} (x y : X) (xs ys : List X) → x ∷ xs ≡ y ∷ ys → x ≡ y
+head_same x y xs ys e = cc
+
+tail_same : {X : Type 0} (x y : X) (xs ys : List X) → x ∷ xs ≡ y ∷ ys → xs ≡ ys
+tail_same x y xs ys e = cc
+
+unguarded : {N : Type 0} (answers : Answering N) (lines : List BoundedLine) (old : Scene (Guarded N)) (replies : List Reply) (new : Scene (Guarded N))
+    → events_of lines ≡ map (λ (reply : Reply). reply.to) replies → Fulfilled (Through answers) old replies new → Unguarded answers old replies new
+unguarded {N} answers lines old [] new order e = record {
+  handed = [];
+  guarded = ap (λ (s : Scene (Guarded N)). s.node.guard) e;
+  whole = ap (λ (s : Scene (Guarded N)). scene s.node.node s.text None) e;
+  conduct = ap (λ (s : Scene (Guarded N)). s.node.conduct) e;
+}
+unguarded answers [] old (reply ∷ replies) new order fulfils = absurd (cc)
+unguarded {N} answers (line ∷ lines) old (reply ∷ replies) new order (node, answer, others) =
+    let to : event_of line ≡ reply.to = head_same _ _ _ _ order in
+    let (frame, out, answered, passes, conduct) = subst (λ (h : Happening). Through answers old.node h (Ok reply.out) node) (sym to) answer in
+    let more = unguarded answers lines (fulfilled reply.out node old) replies new (tail_same _ _ _ _ order) others in
+    let kept = kept_same out reply.out old.text passes.cut passes.append in
+    record {
+      handed = record { to = Came frame; out = out } ∷ more.handed;
+      guarded = (
+        node.guard,
+        (frame_of line, frame, sym to, refl, passes),
+        subst (λ (takes : Bool). Guards takes node.guard replies more.handed new.node.guard) (ap (λ c. c.takes_holdouts) conduct) more.guarded,
+      );
+      whole = (
+        node.node,
+        answered,
+        subst (λ (text : Option (List ℕ)). Fulfilled answers (scene node.node text None) more.handed (scene new.node.node new.text None)) kept more.whole,
+      );
+      conduct = more.conduct ∙ conduct;
+    }
+
+grown_twice : (sent : Option (List ℕ)) (xs ys : List ℕ) → grown (grown sent xs) ys ≡ grown sent (xs ++ ys)
+grown_twice (Some sent) xs ys = ap Some (append_assoc sent xs ys)
+grown_twice None xs ys = refl
+
+grown_none : (sent : Option (List ℕ)) → grown sent [] ≡ sent
+grown_none (Some sent) = ap Some (append-nil sent)
+grown_none None = refl
+
+-- what answers that are fulfilled send: their frames
+fulfilled_sent : {N : Type 0} (answers : Answering N) (old : Scene N) (replies : List Reply) (new : Scene N)
+    → Fulfilled answers old replies new → new.sent ≡ grown old.sent (sent_by replies)
+fulfilled_sent answers old [] new e = ap (λ s. s.sent) e ∙ sym (grown_none old.sent)
+fulfilled_sent answers old (reply ∷ replies) new (node, given, others) =
+    fulfilled_sent answers _ replies new others ∙ grown_twice old.sent reply.out.frames.items (sent_by replies)
+
+same_content : {X : Type 0} (x y : X) → Some x ≡ Some y → x ≡ y
+same_content x y e = cc
+
+-- each of its lines was answered
+pub heard_whole : {N : Type 0} (answers : Answering N) (is_stopped : N → Type 0) (old : Served N) (before : Option PeerState) (piece : List ℕ)
+    (done : Unit {0}) (new : Served N) (after : Option PeerState)
+    → Hears answers is_stopped old.node old.text before piece (Ok done) new.node new.text after
+    → (replies : List Reply) × (handed : List Reply) × AnswersWhereThere answers old before piece replies handed new after
+heard_whole answers is_stopped old None piece done new after (e, node, text, gone) = ([], [], (refl, refl, node, text, gone))
+heard_whole answers is_stopped old (Some peer) piece done new after (next, e, (handed, lines)) =
+    let order = handed.order ∙ append-nil (map (λ (reply : Reply). reply.to) handed.replies) in
+    let through = unguarded answers _ _ handed.replies _ order handed.whole in (
+      handed.replies,
+      through.handed,
+      (
+        next,
+        e,
+        record {
+          asked = order;
+          guarded = through.guarded;
+          whole = through.whole;
+          due = same_content _ _ (fulfilled_sent (Through answers) _ handed.replies _ handed.whole);
+          lines = lines;
+          conduct = through.conduct;
+        },
+      ),
+    )
+
+-- Who is let go.
+pub let_go_same : (place : ℕ) (was was' now now' : Option Dismissal) (last last' : Option Dismissed) → was ≡ was' → now ≡ now' → last ≡ last'
+    → let_go place was now last ≡ let_go place was' now' last'
+let_go_same place was was' now now' last last' a b c =
+    ap (λ (w : Option Dismissal). let_go place w now last) a ∙ ap (λ (n : Option Dismissal). let_go place was' n last) b
+    ∙ ap (λ (l : Option Dismissed). let_go place was' now' l) c

@@ -1,18 +1,19 @@
--- What a guest has said that is let in.
-use Rattle.std.proofs.Common.{◌≡◌, ℕ, zero, suc, ◌+◌, ◌-◌, ◌<◌, Bool, true, false, cond, eqb, ltb, List, [], ◌∷◌, ◌++◌, length, take, refl, subst, sym, ap, ◌∙◌, Option, Some, None, arith}
-use Rattle.std.specs.Prelude.{option_map, codes, nat_lt, Result, Ok, Err, if◌then◌else◌}
+-- What a guest has said that is let in: the line of a worker with the token.
+use Rattle.std.proofs.Common.{◌≡◌, ℕ, zero, suc, ◌+◌, ◌-◌, ◌<◌, Bool, true, false, cond, eqb, ltb, List, [], ◌∷◌, ◌++◌, length, take, refl, subst, sym, ap, ◌∙◌, Option, Some, None, arith, ◌&&◌, not}
+use Rattle.std.specs.Prelude.{option_map, codes, nat_lt, Result, Ok, Err, if◌then◌else◌, slice_index_or, nat_eq}
 use Rattle.std.specs.List.{concat}
 use Rattle.std.specs.Str.{bytes_eq}
 use Rattle.std.proofs.lemmas.List.{append-nil, append_assoc}
 use Rattle.std.proofs.lemmas.Slice.Eq.{bytes_eq-Decides}
-use Rattle.text.specs.Cut.{cut_at}
-use Rattle.peers.specs.declared.guest.Role.TheVariants.{Worker, Coordinator}
 use Rattle.std.proofs.lemmas.Bool.Decides.{nat_tests}
+use Rattle.text.specs.Terms.{cut_at}
+use Rattle.peers.specs.declared.guest.Role.TheVariants.{Worker, Coordinator}
 use Rattle.peers.specs.declared.guest.Heard.TheVariants.{More, Shown, Refused}
 use Rattle.peers.specs.declared.guest.Refusal.{Refusal}
 use Rattle.peers.specs.declared.guest.Refusal.TheVariants.{Strange, OtherVersion, WrongProof}
 use Rattle.peers.specs.Guest.{◌>>=◌, ShowsToken, ShowsWhere, Welcomed, greeting, heard, heard_by, heard_in, hello_in, is_nonce, letter, letter_by, letter_in, proof, proved_by}
 
+-- What a guest has said that is let in.
 abbrev longer : ℕ → Option (List ℕ × List ℕ) → Option (List ℕ × List ℕ)
 longer b cut = option_map (λ cut. (b ∷ cut.0, cut.1)) cut
 
@@ -196,3 +197,13 @@ pub no_line_yet : (token version : List ℕ) (guest : Welcomed) (piece : List �
 unfolding heard
 no_line_yet token version guest piece is =
     no_cut token version guest.nonce (length guest.come) (length (guest.come ++ piece)) (cut_at 10 (guest.come ++ piece)) is
+
+-- Two texts are compared byte by byte.
+
+-- one byte more
+pub same_more : (xs ys : List ℕ) (i : ℕ) → i < length xs → i < length ys
+    → bytes_eq (take (suc i) xs) (take (suc i) ys) ≡ bytes_eq (take i xs) (take i ys) && nat_eq (slice_index_or xs i 0) (slice_index_or ys i 0)
+same_more [] ys i below below' = absurd (omega arith)
+same_more (x ∷ xs) [] i below below' = absurd (omega arith)
+same_more (x ∷ xs) (y ∷ ys) zero below below' = grind arith
+same_more (x ∷ xs) (y ∷ ys) (suc i) below below' = grind (arith, same_more xs ys i (omega arith) (omega arith))

@@ -5,11 +5,9 @@ use Rattle.std.proofs.Math.ListN.{get_or-append}
 use Rattle.std.proofs.Math.Seq.{drop-nil, take-nil}
 use Rattle.std.proofs.lemmas.Bool.{cases_eq, cases_lt, ne_eqb, eq-eqb}
 use Rattle.std.proofs.lemmas.List.{take-append-drop, length-set, get_or-set_same, get_or-set_other, set_past, get_or_past}
-use Rattle.wire.specs.Device.{grown}
-use Rattle.wire.specs.Fulfilled.{Answering, Reply}
-use Rattle.peers.specs.Connections.{Incoming, Taking, Opened, Came, Gone, Passed, Room}
+use Rattle.wire.specs.Terms.{grown, Answering, Reply}
+use Rattle.peers.specs.Served.{Incoming, Taking, Opened, Came, Gone, Passed, Room, Served, Exchange, AnswersWhereThere, TakesArrival, asker, served}
 use Rattle.peers.specs.Peers.{PeerState, at_first, peer_at, due_at, drained_at}
-use Rattle.peers.specs.Served.{Served, Exchange, AnswersWhereThere, TakesArrival, asker, served}
 use Rattle.peers.specs.Sent.{Sends, SendsTo, ServesOne, IsSent, IsGone, answers_to, replies_to, answer_frames}
 
 -- bytes after bytes

@@ -1,14 +1,44 @@
+-- What frames are for, and what lines say by their letters.
+use Rattle.std.specs.Prelude.{ℕ, Bool, true, false, Option, Some, None, ◌==◌, if◌then◌else◌, List, Result, Ok, Err, count_by, slice_get}
+use Rattle.cert.specs.Terms.{Claim, HaltsClaim, NeverClaim, NoClaim}
+use Rattle.wire.specs.Terms.{Message, Ask, Grant, Rec, Ack, Later, Done, Stop}
+use Rattle.text.specs.Terms.{parts_of}
+use Rattle.wire.specs.declared.messages.MsgFault.{MsgFault}
+use Rattle.peers.specs.declared.hearing.Sent.{Sent}
+use Rattle.peers.specs.declared.hearing.Sent.TheVariants.{Ask as AskSent, Record as RecordSent, Other as OtherSent}
+use Rattle.peers.specs.declared.hearing.Heard.{Heard}
+use Rattle.peers.specs.declared.hearing.Heard.TheVariants.{Answer, Receipt, Other}
+use Rattle.peers.specs.declared.pool_core.Course.TheVariants.{Work, Later as LaterCourse, Stop as StopCourse}
+
+-- What lines say by their letters, as messages say it.
+
+-- the id of an `ASK`
+abbrev pub asked_by : Message → Option ℕ
+asked_by (Ask id) = Some id
+asked_by (Grant era number table) = None
+asked_by (Rec r) = None
+asked_by (Ack table) = None
+asked_by (Later table) = None
+asked_by (Done era number) = None
+asked_by Stop = None
+
+-- whether it is the record of a holdout
+abbrev pub is_no_claim : Claim → Bool
+is_no_claim (HaltsClaim e) = false
+is_no_claim (NeverClaim r) = false
+is_no_claim NoClaim = true
+
+abbrev pub gives_up : Message → Bool
+gives_up (Ask id) = false
+gives_up (Grant era number table) = false
+gives_up (Rec r) = is_no_claim r.claim
+gives_up (Ack table) = false
+gives_up (Later table) = false
+gives_up (Done era number) = false
+gives_up Stop = false
+
 -- What the frames of a stream between cores and their coordinator are for: which of those that are sent the coordinator
 -- answers, and for whom those are that come.
-use Rattle.std.specs.Prelude.{ℕ, ◌==◌, Bool, true, false, if◌then◌else◌, List, Option, Some, None, Result, Ok, Err, count_by, slice_get}
-use Rattle.text.specs.Parts.{parts_of}
-use Rattle.wire.specs.Message.{Message, Ask, Grant, Rec, Ack, Later, Done, Stop}
-use Rattle.wire.specs.declared.message_fault.MsgFault.{MsgFault}
-use Rattle.peers.specs.declared.frames.Sent.{Sent}
-use Rattle.peers.specs.declared.frames.Sent.TheVariants.{Ask as AskSent, Record as RecordSent, Other as OtherSent}
-use Rattle.peers.specs.declared.frames.Heard.{Heard}
-use Rattle.peers.specs.declared.frames.Heard.TheVariants.{Answer, Receipt, Other}
-use Rattle.peers.specs.declared.course.Course.TheVariants.{Work, Later as LaterCourse, Stop as StopCourse}
 
 -- a frame that is sent, by its first letter, `A` (65) or `R` (82): a core sends nothing but messages as they are printed, and of
 -- these it sends `ASK`, `REC` and `DONE`

@@ -2,16 +2,13 @@
 use Rattle.std.specs.Prelude.{◌≡◌, ◌≢◌, ◌⊎◌, ◌<◌, ◌≤◌, ℕ, ◌+◌, ◌%◌, ◌^◌, ◌==◌, Bool, true, false, nat_lt, if◌then◌else◌, List, [], ◌∷◌, ◌++◌, Option, Some, None, codes, length, position}
 use Rattle.std.specs.List.{All, Any, Contains, flat_map}
 use Rattle.std.specs.Str.{bytes_eq}
-use Rattle.text.specs.Cut.{cut_at}
-use Rattle.text.specs.Decimal.{decimal_value}
+use Rattle.text.specs.Terms.{cut_at, decimal_value}
 use Rattle.wire.specs.declared.node.Note.{Note}
 use Rattle.wire.specs.declared.node.Note.TheVariants.{Quiet, Strange, Stale, Refused}
 use Rattle.wire.specs.declared.node.Out.{Out}
-use Rattle.wire.specs.Fulfilled.{Reply}
-use Rattle.wire.specs.Grammar.{◌>>=◌}
-use Rattle.wire.specs.Happening.{Happening, Came}
-use Rattle.peers.specs.declared.dismissal.Dismissal.{Dismissal}
-use Rattle.peers.specs.declared.dismissal.Dismissal.TheVariants.{Strange as StrangeLine, Refused as RefusedRecord, Holdout as SentHoldout, NoMemory}
+use Rattle.wire.specs.Terms.{Reply, Happening, Came, ◌>>=◌}
+use Rattle.peers.specs.declared.guard.Dismissal.{Dismissal}
+use Rattle.peers.specs.declared.guard.Dismissal.TheVariants.{Strange as StrangeLine, Refused as RefusedRecord, Holdout as SentHoldout, NoMemory}
 use Rattle.peers.specs.Limits.{peer_lease_limit}
 
 -- an id of a peer that asked: the frame that gives its lease back, as long as it has one; and how many new records the

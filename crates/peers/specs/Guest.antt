@@ -5,7 +5,7 @@ use Rattle.std.specs.List.{concat, list_all}
 use Rattle.std.specs.Str.{bytes_eq}
 use Rattle.hex.specs.Hex.{encode_lower}
 use Rattle.sha2.specs.Sha256.{sha256}
-use Rattle.text.specs.Cut.{cut_at}
+use Rattle.text.specs.Terms.{cut_at}
 use Rattle.peers.specs.declared.guest.Role.{Role}
 use Rattle.peers.specs.declared.guest.Role.TheVariants.{Worker, Coordinator}
 use Rattle.peers.specs.declared.guest.Refusal.{Refusal}

@@ -1,10 +1,10 @@
 -- For the code: what a guard makes of a line before the node answers, and of the answer.
 use Rattle.std.specs.Prelude.{◌≡◌, ◌⊎◌, ◌<◌, ℕ, ◌==◌, Bool, true, false, nat_lt, if◌then◌else◌, List, [], ◌∷◌, ◌++◌, Option, Some, None, get_or, length, remove, set}
 use Rattle.wire.specs.declared.node.Out.{Out}
-use Rattle.peers.specs.declared.dismissal.Dismissal.{Dismissal}
-use Rattle.peers.specs.declared.dismissal.Dismissal.TheVariants.{Holdout as SentHoldout, NoMemory}
-use Rattle.peers.specs.declared.passage.Passage.{Passage}
-use Rattle.peers.specs.declared.passage.Passage.TheVariants.{Whole, Ask, GiveBack, Later, Holdout, Nothing}
+use Rattle.peers.specs.declared.guard.Dismissal.{Dismissal}
+use Rattle.peers.specs.declared.guard.Dismissal.TheVariants.{Holdout as SentHoldout, NoMemory}
+use Rattle.peers.specs.declared.guard.Passage.{Passage}
+use Rattle.peers.specs.declared.guard.Passage.TheVariants.{Whole, Ask, GiveBack, Later, Holdout, Nothing}
 use Rattle.peers.specs.Limits.{peer_lease_limit}
 use Rattle.peers.specs.Guard.{AskerState, GuardState, IsAsk, IsHonest, MayAsk, asked_id, records_then, granted, is_holdout, later_frame, dismissed_by}
 

@@ -1,19 +1,57 @@
--- What becomes of a node, its ledger and its peers by what comes.
-use Rattle.std.specs.Prelude.{◌≡◌, ◌≢◌, ◌⊎◌, ℕ, List, [], ◌∷◌, ◌++◌, Option, Some, None, Result, Ok, Err, map, set}
+-- What comes from outside, and what becomes of a node, its ledger and its peers by it.
+use Rattle.std.specs.Prelude.{◌≤◌, ℕ, List, ◌++◌, Option, Some, None, take, ◌≡◌, ◌≢◌, ◌⊎◌, [], ◌∷◌, Result, Ok, Err, map, set}
+use Rattle.peers.specs.declared.serving.Arrival.{Arrival}
+use Rattle.peers.specs.declared.serving.Arrival.TheVariants.{Opened as ArrivalOpened, Came as ArrivalCame, Gone as ArrivalGone, Passed as ArrivalPassed, Room as ArrivalRoom}
 use Rattle.wire.specs.declared.node.Out.{Out}
-use Rattle.wire.specs.declared.turned.TurnFault.{TurnFault}
-use Rattle.wire.specs.declared.turned.TurnFault.TheVariants.{LinkFault, NoMemory}
-use Rattle.wire.specs.Happening.{Happening, Ticked}
-use Rattle.wire.specs.Lines.{fed}
-use Rattle.wire.specs.Fulfilled.{Answering, Scene, Reply, BrokenOff, Fulfilled, Faulted, scene, sent_by, kept_text}
-use Rattle.wire.specs.Turned.{TakesPiece, events_of}
-use Rattle.peers.specs.declared.dismissal.Dismissal.{Dismissal}
-use Rattle.peers.specs.declared.dismissal.Dismissed.{Dismissed}
+use Rattle.wire.specs.declared.handing.TurnFault.{TurnFault}
+use Rattle.wire.specs.declared.handing.TurnFault.TheVariants.{LinkFault, NoMemory}
+use Rattle.wire.specs.Terms.{Happening, Ticked, fed, Answering, Scene, Reply, BrokenOff, Fulfilled, Faulted, scene, sent_by, kept_text, TakesPiece, events_of}
+use Rattle.peers.specs.declared.guard.Dismissal.{Dismissal}
+use Rattle.peers.specs.declared.guard.Dismissed.{Dismissed}
 use Rattle.peers.specs.declared.guarded.Guarded.{Guarded}
-use Rattle.peers.specs.Connections.{Incoming, Taking, Opened, Came, Gone, Passed, Room, noted}
 use Rattle.peers.specs.Guard.{Guards, returned}
-use Rattle.peers.specs.Guarded.{StoppedWithin, Through, behind}
-use Rattle.peers.specs.Peers.{PeerState, at_first, dismissal_at, due_at, peer_at, failures_at, drained_at, KeepsOthers}
+use Rattle.peers.specs.Peers.{StoppedWithin, Through, behind, PeerState, at_first, dismissal_at, due_at, peer_at, failures_at, drained_at, KeepsOthers}
+
+-- What comes from outside.
+pub data Incoming : Type 0 where
+  -- a peer came, and has the next place
+  Opened : Incoming
+  -- these bytes came from the peer at a place
+  Came : ℕ → List ℕ → Incoming
+  -- the one at a place is gone
+  Gone : ℕ → Incoming
+  -- it is this moment
+  Passed : ℕ → Incoming
+  -- the one at a place takes bytes again
+  Room : ℕ → Incoming
+
+-- what an arrival says, with the bytes at the front of a buffer
+abbrev pub incoming : Arrival → List ℕ → Incoming
+incoming ArrivalOpened buf = Opened
+incoming (ArrivalCame place count) buf = Came place (take count buf)
+incoming (ArrivalGone place) buf = Gone place
+incoming (ArrivalPassed moment) buf = Passed moment
+incoming (ArrivalRoom place) buf = Room place
+
+-- how many of these bytes the peer at a place takes at once, as far as that is known
+abbrev pub Taking : Type 1
+Taking = ℕ → List ℕ → ℕ → Type 0
+
+-- what is taken now would have been taken before
+abbrev pub TakesAsBefore : Taking → Taking → Type 0
+TakesAsBefore old new = (place : ℕ) (bytes : List ℕ) (count : ℕ) → new place bytes count → old place bytes count
+
+-- what came stands within a buffer of so many bytes
+abbrev pub FitsIn : ℕ → Arrival → Type 0
+FitsIn size (ArrivalCame place count) = count ≤ size
+FitsIn size other = Unit {0}
+
+-- what has come, where that is known, and then this
+abbrev pub noted : Option (List Incoming) → List Incoming → Option (List Incoming)
+noted (Some came) more = Some (came ++ more)
+noted None more = None
+
+-- What becomes of a node, its ledger and its peers by what comes.
 
 -- a node behind the guards of its peers, the text of its ledger, and the peers
 pub record Served (N : Type 0) : Type 0 where

@@ -1,21 +1,135 @@
-// The guard of a peer.
-ghost use Rattle.std.specs.Prelude.{◌≡◌, ◌≢◌, ◌<◌, List, [], IfErr, IfNone, IfSome, None, OnErr, OnOk, Some, false, length, position, true};
-ghost use Rattle.wire.specs.Fulfilled.{BrokenOff, Handed, scene};
-ghost use Rattle.wire.specs.Happening.{Happening};
-ghost use Rattle.wire.specs.Turned.{EndsInStep, devices};
-ghost use Rattle.wire.specs.declared.turned.TurnFault.TheVariants.{LinkFault as Unlinked};
-ghost use Rattle.peers.specs.Guard.{fresh, is_of, later_frame, returned};
+// The guard of a peer: what it lets through, and why a peer is let go.
+ghost use Rattle.std.specs.Prelude.{◌≡◌, IfOk, option_map, ◌≢◌, ◌<◌, List, [], IfErr, IfNone, IfSome, None, OnErr, OnOk, Some, false, length, position, true};
+ghost use Rattle.peers.specs.Guard.{asked_id, text_behind, granted, is_holdout, lease_in, fresh, is_of, later_frame, returned};
+ghost use Rattle.wire.specs.Terms.{BrokenOff, Handed, scene, Happening, EndsInStep, devices};
+ghost use Rattle.wire.specs.declared.handing.TurnFault.TheVariants.{LinkFault as Unlinked};
 ghost use Rattle.peers.specs.Limits.{peer_lease_limit};
 ghost use Rattle.peers.specs.Passing.{BecomesOfAsk, Forgets, IsPlaceFor, IsPassage, Remembers, Tells, given_back, handed_line, heard_out, is_spent, put_at};
 
-use crate::asker::Asker;
-use crate::dismissal::Dismissal;
-use crate::letters::{asked_id, is_holdout, returning};
 use crate::limits::MAX_PEER_LEASES;
-use crate::passage::Passage;
+use crate::pool_core::Asker;
 use std::alloc::Global;
+use std::fmt;
 use std::marker::Model;
+use text::{cut_at, decimal_value};
 use wire::{LedgerOut, NoMemory, Node, Note, Out, TurnFault};
+
+/// Why a peer of a coordinator is let go.
+#[derive(Clone, Copy, Debug, PartialEq, Eq)]
+pub enum Dismissal {
+    /// A line of it is no message, or none for a coordinator.
+    Strange,
+    /// A record of it was refused, with this number.
+    Refused(u16),
+    /// A record of a holdout came from it, where none is taken.
+    Holdout,
+    /// Memory for its leases, or for an answer to it, was refused.
+    NoMemory,
+}
+
+impl fmt::Display for Dismissal {
+    ghost use Rattle.std.specs.Prelude.{Some};
+    ghost use Rattle.peers.specs.Peers.{dismissal_text};
+
+    ghost output = { λ why. Some (dismissal_text why) };
+
+    fn fmt<W: fmt::Write>(&self, f: &mut fmt::Formatter<W>) -> fmt::Result {
+        match self {
+            Dismissal::Strange => f.write_str("it sent a line that is no message to a coordinator"),
+            Dismissal::Refused(number) => write!(f, "a record of it was refused with {number}"),
+            Dismissal::Holdout => f.write_str("it sent a holdout, and none is taken"),
+            Dismissal::NoMemory => f.write_str("out of memory"),
+        }
+    }
+}
+
+/// A peer that is to be let go.
+#[derive(Clone, Copy, Debug, PartialEq, Eq)]
+pub struct Dismissed {
+    /// The place that it has.
+    pub place: usize,
+    /// Why it is let go.
+    pub why: Dismissal,
+}
+
+// What of a line the node is handed, and what its peer is told.
+#[derive(Clone, Copy, Debug, PartialEq, Eq)]
+pub(crate) enum Passage {
+    // The line is handed over.
+    Whole,
+    // The line is handed over: an `ASK` of this id. Where it brings a lease, that is remembered at this place, and if nothing
+    // comes of it the id waits for so many seconds.
+    Ask { id: u32, place: usize, wait: u64 },
+    // The lease at this place is given back, and who asked is told to come later.
+    GiveBack { place: usize },
+    // The node is handed nothing, and who asked is told to come later.
+    Later,
+    // The node is handed nothing, and the peer is told nothing: it is let go, since it sent a holdout.
+    Holdout,
+    // The node is handed nothing, and the peer is told nothing: it is let go already.
+    Nothing,
+}
+
+// Room for the longest `DONE`: a word and two numbers.
+const ROOM: usize = 46;
+
+// What stands behind a word and a space; none where a text begins otherwise.
+fn behind<'a>(word: &[u8], text: &'a [u8]) -> Option<&'a [u8]>
+    ensures { option_map (λ rest. rest.now) result ≡ text_behind word.now text.now }
+{
+    let (first, rest) = cut_at(b' ', text)?;
+    if first == word { Some(rest) } else { None }
+}
+
+#[tactic(auto, unfolding(crate::specs::Guard::asked_id))]
+// The id of an `ASK`; none where a line is no `ASK` of an id.
+pub(crate) fn asked_id(line: &[u8]) -> Option<u32>
+    ensures { result ≡ asked_id line.now }
+{
+    match u32::try_from(decimal_value(behind(b"ASK", line)?)?) {
+        Ok(id) => Some(id),
+        Err(_) => None,
+    }
+}
+
+#[tactic(auto, unfolding(crate::specs::Guard::is_holdout))]
+// Whether a line is the record of a holdout.
+pub(crate) fn is_holdout(line: &[u8]) -> bool
+    ensures { result ≡ is_holdout line.now }
+{
+    let Some(text) = behind(b"REC", line) else {
+        return false;
+    };
+    match cut_at(b' ', text) {
+        Some((_, kind)) => kind == b"U".as_slice(),
+        None => false,
+    }
+}
+
+#[tactic(auto, unfolding(crate::specs::Guard::granted))]
+// The frame that gives back the lease that the first of some frames grants; none where it grants none.
+pub(crate) fn returning(alloc: Global, frames: &[u8]) -> Result<Option<Vec<u8>>, NoMemory>
+    ensures { IfOk result (λ frame. option_map (λ f. f.items) frame ≡ granted frames.now) }
+{
+    let Some((era, number)) = lease_in(frames) else {
+        return Ok(None);
+    };
+    let mut frame = Vec::with_capacity(alloc, ROOM)?;
+    frame.extend_from_slice(b"DONE ")?;
+    frame.extend_from_slice(era)?;
+    frame.extend_from_slice(b" ")?;
+    frame.extend_from_slice(number)?;
+    Ok(Some(frame))
+}
+
+// The era and the number of that lease, as they are written.
+fn lease_in(frames: &[u8]) -> Option<(&[u8], &[u8])>
+    ensures { option_map (λ lease. (lease.0.now, lease.1.now)) result ≡ lease_in frames.now }
+{
+    let (era, rest) = cut_at(b' ', behind(b"GRANT", frames)?)?;
+    let (number, _) = cut_at(b' ', rest)?;
+    Some((era, number))
+}
 
 /// What stands between a peer and a node: it knows the leases that the peer has, and how many new records it brought, and
 /// decides what of its lines the node is handed.

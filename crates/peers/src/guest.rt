@@ -1,14 +1,12 @@
 // The handshake: who has connected and hasn't shown yet that it has the token, and what both sides say then.
-ghost use Rattle.std.specs.Prelude.{◌≡◌, ◌≤◌, ◌<◌, [], ◌^◌, ◌++◌, ◌-◌, ℕ, List, Some, None, Ok, IfOk, IfSome, OnOk, codes};
-ghost use Rattle.std.specs.Prelude.{if◌then◌else◌, length, option_map, replicate};
+ghost use Rattle.std.specs.Prelude.{◌≡◌, ◌≤◌, ◌<◌, [], ◌^◌, ◌++◌, ◌-◌, ℕ, List, Some, None, Ok, IfOk, IfSome, OnOk, codes, if◌then◌else◌, length, option_map, replicate};
 ghost use Rattle.std.specs.List.{list_all};
 ghost use Rattle.std.specs.Str.{bytes_eq};
 ghost use Rattle.hex.specs.Hex.{encode_lower};
 ghost use Rattle.sha2.specs.Hashers.{Holds256};
 ghost use Rattle.sha2.specs.Sha256.{sha256};
-ghost use Rattle.text.specs.Cut.{cut_at};
-ghost use Rattle.peers.specs.Guest.{ShowsWhere, key_block, claim, greeted, greeting, hello_in, heard, heard_in, hmac};
-ghost use Rattle.peers.specs.Guest.{is_low_digit, is_nonce, letter, letter_in, masked, proof, role_word, proved_by};
+ghost use Rattle.text.specs.Terms.{cut_at};
+ghost use Rattle.peers.specs.Guest.{ShowsWhere, key_block, claim, greeted, greeting, hello_in, heard, heard_in, hmac, is_low_digit, is_nonce, letter, letter_in, masked, proof, role_word, proved_by};
 
 use hex::encode_to_slice;
 use sha2::{Digest, Sha256};

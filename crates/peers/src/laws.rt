@@ -1,17 +1,15 @@
 // What is true of all that is served: laws over the definitions, each the contract of a function without a body.
 ghost use Rattle.std.specs.Prelude.{◌≡◌, ◌<◌, ◌≤◌, ◌^◌, ◌∷◌, ◌++◌, ℕ, Bool, List, [], Ok, Some, length, map};
-ghost use Rattle.machine_text.specs.Packed.{Packed};
-ghost use Rattle.wire.specs.Fulfilled.{Fulfilled, Reply};
-ghost use Rattle.wire.specs.Grammar.{message_of, message_text};
-ghost use Rattle.wire.specs.Message.{Done, Grant, Message};
+ghost use Rattle.machine_text.specs.Terms.{Packed};
+ghost use Rattle.wire.specs.Terms.{Fulfilled, Reply, message_of, message_text, Done, Grant, Message};
 ghost use Rattle.peers.specs.Guard.{ArePassed, GuardState, Guards, IsOwnOf, IsReturn, asked_id, granted, is_holdout};
-ghost use Rattle.peers.specs.Letters.{asked_by, gives_up};
+ghost use Rattle.peers.specs.Frames.{asked_by, gives_up};
 ghost use Rattle.peers.specs.Limits.{peer_lease_limit};
 ghost use Rattle.peers.specs.Peers.{PeerState, at_first, peer_at};
 ghost use Rattle.peers.specs.Served.{Exchange, Rounds, Served, unseen};
-ghost use Rattle.peers.specs.Heard.{GuardsAll, SaysMore, HasSaid, all_handed};
+ghost use Rattle.peers.specs.Sent.{GuardsAll, SaysMore, HasSaid, all_handed};
 
-use crate::connections::Connections;
+use crate::serving::Connections;
 use wire::Node;
 
 /// Whatever comes between from others, the guard of each peer takes the lines of all its bytes, in their order, as of one text.

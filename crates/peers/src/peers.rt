@@ -1,18 +1,13 @@
 // Peers, each at a place of its own.
 ghost use Rattle.std.specs.Prelude.{◌≡◌, ◌≢◌, ◌≤◌, ◌↔◌, ◌++◌, ◌∷◌, List, [], None, Some, IfErr, IsTrue, OnOk, OnErr, length, set};
-ghost use Rattle.wire.specs.Fulfilled.{BrokenOff, Handed, scene};
-ghost use Rattle.wire.specs.Happening.{Happening};
-ghost use Rattle.wire.specs.Turned.{EndsInStep, devices};
-ghost use Rattle.wire.specs.declared.turned.TurnFault.TheVariants.{LinkFault as Unlinked};
-ghost use Rattle.peers.specs.Guarded.{InStepWithin};
-ghost use Rattle.peers.specs.Peers.{KeepsOthers, at_first, dismissal_at, due_at, failures_at, peer_at, peer_count, drained_at};
+ghost use Rattle.wire.specs.Terms.{BrokenOff, Handed, scene, Happening, EndsInStep, devices};
+ghost use Rattle.wire.specs.declared.handing.TurnFault.TheVariants.{LinkFault as Unlinked};
+ghost use Rattle.peers.specs.Peers.{InStepWithin, KeepsOthers, at_first, dismissal_at, due_at, failures_at, peer_at, peer_count, drained_at, boxed_peer};
 ghost use Rattle.peers.specs.Served.{Hears, OnlyNode, returned_at};
-ghost use Rattle.peers.specs.Slot.{boxed_peer};
 
-use crate::dismissal::Dismissal;
+use crate::guard::Dismissal;
 use crate::guarded::Guarded;
-use crate::peer::Peer;
-use crate::slot::Slot;
+use crate::peer::{Peer, Slot};
 use std::alloc::Global;
 use std::marker::Model;
 use wire::{LedgerOut, NoMemory, Node, TurnFault};

@@ -1,5 +1,2 @@
-pub mod ScoreLaws
+pub mod HaltingClaims
 pub mod Standings
-pub mod Sweeping
-pub mod FieldLaws
-pub mod Passing

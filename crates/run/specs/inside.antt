@@ -1,7 +1,6 @@
 -- What only the code needs: where a runner with these fields stands, and what one turn of a run's loop leaves.
 use Rattle.std.specs.Prelude.{◌≡◌, ℕ, ◌<◌}
-use Rattle.run.specs.RunState.{RunState}
-use Rattle.run.specs.Steps.{IsBetween, EndsAt}
+use Rattle.run.specs.Steps.{RunState, IsBetween, EndsAt}
 use Rattle.run.specs.declared.runner.Step.{Step}
 use Rattle.run.specs.declared.runner.Step.TheVariants.{Went, Halts}
 use Rattle.run.specs.declared.runner.Runner.TheInside.{Inside}

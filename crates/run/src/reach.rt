@@ -1,9 +1,14 @@
-// How late a run halts, and by which letter a record says so.
-ghost use Rattle.std.specs.Prelude.{◌≡◌, ◌≤◌, ◌↔◌, IsTrue};
+// How late a run halts, and the claim that it halts as the fields of a record.
+ghost use Rattle.std.specs.Prelude.{◌≡◌, ◌≤◌, ◌↔◌, IsTrue, ◌++◌, length, take, OnOk, Ok};
 ghost use Rattle.run.specs.Limits.{late_step_limit};
-ghost use Rattle.run.specs.Reach.{IsInReach, IsWithinReach, reach_letter};
+ghost use Rattle.run.specs.Halts.{IsInReach, IsWithinReach, reach_letter, AreShort, halts_by, halts_fields};
+ghost use Rattle.text.specs.Terms.{spaced, AreFields};
+ghost use Rattle.run.specs.declared.halting.HaltsIn.{HaltsIn};
 
+use crate::halting::HaltsIn;
 use crate::limits::{MAX_HALT_STEPS, MAX_LATE_STEPS};
+use kind_evidence::NoMemory;
+use text::{FieldFault, Parts, append_number_field, end_of, next_field, number_in};
 
 /// How late a run halts.
 #[derive(Clone, Copy, Debug, PartialEq, Eq)]
@@ -57,3 +62,40 @@ impl Reach {
         }
     }
 }
+
+impl HaltsIn {
+    /// The claim that the fields of a record make: `k`, or `k s` with the score.
+    pub fn read(reach: Reach, mut fields: Parts<'_>) -> Result<HaltsIn, FieldFault>
+        ensures { result ≡ halts_by reach fields.entry }
+    {
+        let steps = next_field(&mut fields)?;
+        let Some(ones) = fields.next() else {
+            return HaltsIn::within(reach, number_in(steps)?, None);
+        };
+        end_of(fields)?;
+        HaltsIn::within(reach, number_in(steps)?, Some(number_in(ones)?))
+    }
+
+    /// Appends the fields of a record, each behind a space. Where memory is refused, a beginning of them; nothing of a claim that
+    /// its letter can't say, which none is that was read, searched or made by `of`.
+    pub fn append_fields(&self, out: &mut Vec<u8>) -> Result<(), NoMemory>
+        ensures ok { OnOk result (out.new.items ≡ out.old.items ++ spaced (halts_fields self.now)) }
+        ensures writable { OnOk result (AreShort self.now) }
+        ensures kept { take (length out.old.items) out.new.items ≡ out.old.items }
+    {
+        if !self.reach.has(self.steps) {
+            return Err(NoMemory);
+        }
+        append_number_field(self.steps, out)?;
+        match self.ones {
+            Some(ones) => append_number_field(ones, out),
+            None => Ok(()),
+        }
+    }
+}
+
+/// The fields of a table that halts, whose numbers of steps and of ones have 64 bits, read back.
+pub fn halts_reads_back()
+    ensures back { (e : HaltsIn) → AreShort e → halts_by e.reach (halts_fields e) ≡ Ok e }
+    ensures fields { (e : HaltsIn) → AreShort e → AreFields (halts_fields e) }
+{}

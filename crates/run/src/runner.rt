@@ -1,7 +1,7 @@
 // A run from the blank tape, step by step.
 ghost use Rattle.std.specs.Prelude.{◌≡◌, ◌+◌, ◌<◌, ◌≤◌, IfOk, OnOk, OnErr};
-ghost use Rattle.law_turing.specs.Tape.{written, moved};
-ghost use Rattle.tape.specs.Places.{IsWithinLimit};
+ghost use Rattle.law_turing.specs.Terms.{written, moved};
+ghost use Rattle.tape.specs.Terms.{IsWithinLimit};
 
 use crate::limits::MAX_RUN_STEPS;
 use crate::passages::Passages;
@@ -32,7 +32,7 @@ pub struct Runner {
 }
 
 impl Model for Runner {
-    ghost use Rattle.run.specs.RunState.{RunState, run_state_code, OnRun};
+    ghost use Rattle.run.specs.Steps.{RunState, run_state_code, OnRun};
 
     ghost Value = { RunState };
 
@@ -46,11 +46,9 @@ impl Model for Runner {
 }
 
 impl Runner {
-    ghost use Rattle.law_turing.specs.Run.{start};
-    ghost use Rattle.law_turing.specs.Score.{score_of};
+    ghost use Rattle.law_turing.specs.Terms.{start, score_of};
     ghost use Rattle.run.specs.Limits.{run_step_limit, window_step_limit};
-    ghost use Rattle.run.specs.RunState.{OnRun};
-    ghost use Rattle.run.specs.Steps.{StepsTo, RunsTo, IsBetween};
+    ghost use Rattle.run.specs.Steps.{OnRun, StepsTo, RunsTo, IsBetween};
     ghost use Rattle.run.specs.inside.{AdvancesTo};
 
     /// The run at time 0.

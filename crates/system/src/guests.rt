@@ -1,8 +1,6 @@
 // Guests: who has connected and hasn't shown the token yet, where there is one.
-use crate::herald::Herald;
-use crate::origin::Origin;
-use crate::peer_socket::{PeerSocket, PeerStream, waits};
-use crate::token_shown::nonce_from;
+use crate::coordinator_socket::{Herald, nonce_from};
+use crate::peer_sockets::{Origin, PeerSocket, PeerStream, waits};
 use cmd_options::release;
 use mio::{Interest, Registry, Token};
 use peers::{Digits, Guest, Heard, Refusal};

@@ -1,22 +1,126 @@
-// A listener and the sockets of the peers that it accepted, without a count of failures.
+// Where a coordinator listens, what waits for connections, and the sockets of the peers that were accepted.
 ghost use Rattle.std.specs.Prelude.{◌≤◌, IfOk, IfSome, length};
-ghost use Rattle.peers.specs.Connections.{FitsIn};
+ghost use Rattle.peers.specs.Terms.{FitsIn};
 
-use crate::address::Address;
+use crate::coordinator_socket::Herald;
 use crate::guests::{Guests, is_guest};
-use crate::herald::Herald;
-use crate::leaving::Leaving;
-use crate::listener::Listener;
-use crate::origin::Origin;
-use crate::peer_socket::PeerSocket;
+use crate::peer_sockets::{Leaving, Origin, PeerSocket, PeerStream, Socket};
 use crate::places::Places;
-use crate::seconds::Seconds;
+use crate::watched_files::Seconds;
 use cmd_nodes::Admission;
 use mio::{Events, Interest, Poll, Token};
 use peers::{Arrival, Dismissal};
-use std::io;
-use std::net::SocketAddr;
+use std::fs;
+use std::io::{self, ErrorKind};
+use std::net::{self, Ipv4Addr, SocketAddr};
+use std::os::unix::fs::FileTypeExt;
+use std::os::unix::net::UnixStream;
 use std::time::Duration;
+
+/// Where a coordinator listens, and workers connect with it.
+#[derive(Clone, Copy, Debug, PartialEq, Eq)]
+pub enum Address<'a> {
+    /// A host, by name or number, and a port, as in `example.org:7007`.
+    Host(&'a str),
+    /// A port of this computer, 127.0.0.1.
+    Port(u16),
+    /// The path of a socket file.
+    File(&'a str),
+    /// A number that is no port.
+    NoPort,
+}
+
+impl<'a> Address<'a> {
+    /// The address that a text names: a path where it has a `/`, a port where it is a number.
+    pub fn of(text: &'a str) -> Address<'a> {
+        if text.contains('/') {
+            return Address::File(text);
+        }
+        match text.parse::<u16>() {
+            Ok(port) => Address::Port(port),
+            Err(_) if text.bytes().all(|byte| byte.is_ascii_digit()) => Address::NoPort,
+            Err(_) => Address::Host(text),
+        }
+    }
+
+    /// Whether any port will do: the system picks one for port 0.
+    pub fn has_any_port(&self) -> bool {
+        match self {
+            Address::Host(host) => host.ends_with(":0"),
+            Address::Port(port) => *port == 0,
+            Address::File(_) | Address::NoPort => false,
+        }
+    }
+}
+
+// A listener whose `accept` doesn't wait.
+pub(crate) type Listener = Socket<mio::net::TcpListener, mio::net::UnixListener>;
+
+impl Listener {
+    // Listens at an address. A socket file that nobody listens at any more is made anew.
+    pub(crate) fn at(rt: &HostRuntime, address: Address<'_>) -> io::Result<Listener> {
+        match address {
+            Address::Host(host) => Listener::over(net::TcpListener::bind(rt, host)?),
+            Address::Port(port) => {
+                Listener::over(net::TcpListener::bind(rt, (Ipv4Addr::LOCALHOST, port))?)
+            }
+            Address::NoPort => Err(io::Error::other("a port is 1 to 65535")),
+            Address::File(path) => {
+                remove_left_over(rt, path)?;
+                Ok(Socket::Unix(mio::net::UnixListener::bind(rt, path)?))
+            }
+        }
+    }
+
+    fn over(listener: net::TcpListener) -> io::Result<Listener> {
+        listener.set_nonblocking(true)?;
+        Ok(Socket::Tcp(mio::net::TcpListener::from_std(listener)))
+    }
+
+    // The address and the port at which it listens; an error of a socket file.
+    pub(crate) fn place(&self) -> io::Result<SocketAddr> {
+        match self {
+            Socket::Tcp(listener) => listener.local_addr(),
+            Socket::Unix(_) => Err(io::Error::from(ErrorKind::Unsupported)),
+        }
+    }
+
+    // The connection that has waited longest; `WouldBlock` where none waits.
+    pub(crate) fn accept(&self) -> io::Result<(PeerStream, Origin)> {
+        match self {
+            Socket::Tcp(listener) => {
+                let (stream, place) = listener.accept()?;
+                // What is written goes out at once: answers aren't held back until the last is acknowledged.
+                stream.set_nodelay(true)?;
+                Ok((Socket::Tcp(stream), Origin::Address(place)))
+            }
+            Socket::Unix(listener) => {
+                let (stream, _) = listener.accept()?;
+                Ok((Socket::Unix(stream), Origin::SocketFile))
+            }
+        }
+    }
+}
+
+// Removes the socket file of a listener that is gone: nobody answers at it. Whatever else stands there stays: of a file that is
+// no socket, and of a link, a connection is refused too.
+fn remove_left_over(rt: &HostRuntime, path: &str) -> io::Result<()> {
+    match fs::symlink_metadata(rt, path) {
+        Ok(found) if found.file_type().is_socket() => remove_unheard(rt, path),
+        Ok(_) => Err(io::Error::other("what stands there is no socket")),
+        Err(fault) if fault.kind() == ErrorKind::NotFound => Ok(()),
+        Err(fault) => Err(fault),
+    }
+}
+
+// Removes a socket file, unless somebody listens at it.
+fn remove_unheard(rt: &HostRuntime, path: &str) -> io::Result<()> {
+    match UnixStream::connect(rt, path) {
+        Err(fault) if fault.kind() == ErrorKind::ConnectionRefused => fs::remove_file(rt, path),
+        Err(fault) => Err(fault),
+        Ok(_) => Err(io::Error::from(ErrorKind::AddrInUse)),
+    }
+}
 
 // How many peers there are at most.
 const MAX_PEERS: usize = 1_000;
@@ -28,7 +132,7 @@ const EVENTS: usize = 1_024;
 const MOST_TURNS: usize = 64;
 
 // The listener's name among the sources of events; no peer has this place.
-const LISTENER: Token = Token(usize::MAX);
+const LISTENER_TOKEN: Token = Token(usize::MAX);
 
 #[derive(Drop)]
 pub(crate) struct Listening<'a> {
@@ -60,7 +164,7 @@ impl<'a> Listening<'a> {
         let poll = Poll::new(rt)?;
         let mut listener = Listener::at(rt, address)?;
         poll.registry()
-            .register(&mut listener, LISTENER, Interest::READABLE)?;
+            .register(&mut listener, LISTENER_TOKEN, Interest::READABLE)?;
         let Admission { token, per_address } = admission;
         Ok(Listening {
             rt,
@@ -244,7 +348,7 @@ impl<'a> Listening<'a> {
         self.poll.poll(&mut self.events, Some(wait))?;
         for event in self.events.iter() {
             let token = event.token();
-            if token == LISTENER {
+            if token == LISTENER_TOKEN {
                 self.is_asked = true;
             } else if is_guest(token.0) {
                 if let Some(guests) = &mut self.guests {

@@ -1,11 +1,9 @@
-// The sockets of peers, each at a place that no later one gets.
+// The places of peers: none is given twice, one that is silent too long is lost, and each is read in its turn.
 ghost use Rattle.std.specs.Prelude.{◌≤◌, ℕ, IfOk, IfSome, length};
-ghost use Rattle.peers.specs.Connections.{FitsIn};
+ghost use Rattle.peers.specs.Terms.{FitsIn};
 
-use crate::herald::Herald;
-use crate::leaving::Leaving;
-use crate::peer_socket::PeerSocket;
-use crate::turns::Turns;
+use crate::coordinator_socket::Herald;
+use crate::peer_sockets::{Leaving, PeerSocket, Turns};
 use mio::event::Event;
 use peers::Arrival;
 use std::alloc::{AllocError as NoMemory, Global};

@@ -2,7 +2,7 @@
 // is refused, nothing is told.
 ghost use Rattle.std.specs.Prelude.{◌≡◌};
 
-use crate::share::{WHOLE, ahead_weight, open_weight};
+use crate::tree_share::{WHOLE, ahead_weight, open_weight};
 use cert::{Decided, Decider, OwnedRecord};
 use files::Progress;
 use kind_evidence::NoMemory;

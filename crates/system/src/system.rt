@@ -1,15 +1,12 @@
 // The files, the clock and the sockets of the system.
-use crate::address::Address;
-use crate::call::SocketCaller;
+use crate::coordinator_socket::{Herald, SocketCaller};
 use crate::disk::Disk;
-use crate::failures::Failures;
-use crate::herald::Herald;
-use crate::named_socket::{LOOPBACK, NamedSocket};
+use crate::disk_ledger::Storage;
+use crate::listening::Address;
+use crate::named::{Failures, LOOPBACK, NamedSocket};
 use crate::peer_sockets::PeerSockets;
 use crate::progress::{ProgressTold, Telling};
-use crate::saying::{Odd, Saying};
-use crate::storage::Storage;
-use crate::watch::Watch;
+use crate::watched_files::{Odd, Saying, Watch};
 use cmd_nodes::{Admission, Network, Sockets};
 use sha2::{Digest, Sha256};
 use std::alloc::AllocError as NoMemory;

@@ -1,11 +1,4 @@
-pub mod Cells
-pub mod Symbols
-pub mod Packed
-pub mod Moves
+pub mod PackedCells
 pub mod WordBits
-pub mod LikeBits
 pub mod Sweeps
-pub mod Places
 pub mod Halves
-pub mod WordOnes
-pub mod Windows

@@ -1,6 +1,4 @@
 pub mod Limits
-pub mod Places
-pub mod Sweeps
-pub mod Word
-pub mod Windows
+pub mod Cells
 pub mod inside
+pub mod Terms

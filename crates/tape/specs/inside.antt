@@ -3,14 +3,13 @@
 use Rattle.std.specs.Prelude.{◌≡◌, ℕ, ◌+◌, ◌-◌, ◌*◌, ◌^◌, ◌<◌, ◌≤◌, ℤ, pos, ◌+ℤ◌, ◌-ℤ◌, neg_ℤ, ◌≤ℤ◌, ◌⊎◌, List, [], ◌∷◌, ◌++◌, length, reverse, sum_by}
 use Rattle.std.specs.Ordering.{int_cmp}
 use Rattle.std.specs.FinSet as set
-use Rattle.machine_text.specs.declared.transition.Sym.{Sym}
-use Rattle.machine_text.specs.declared.transition.Sym.TheVariants.{Zero, One}
-use Rattle.machine_text.specs.declared.transition.Dir.{Dir}
-use Rattle.machine_text.specs.declared.transition.Dir.TheVariants.{L, R}
-use Rattle.law_turing.specs.Tape.{Tape, cell_of}
-use Rattle.law_turing.specs.Translated.{Beyond}
+use Rattle.machine_text.specs.declared.table.Sym.{Sym}
+use Rattle.machine_text.specs.declared.table.Sym.TheVariants.{Zero, One}
+use Rattle.machine_text.specs.declared.table.Dir.{Dir}
+use Rattle.machine_text.specs.declared.table.Dir.TheVariants.{L, R}
+use Rattle.law_turing.specs.Terms.{Tape, cell_of, Beyond}
 use Rattle.tape.specs.Limits.{place_limit}
-use Rattle.tape.specs.Word.{ones_of, symbols, symbols_of}
+use Rattle.tape.specs.Cells.{ones_of, symbols, symbols_of}
 
 -- places are numbered from -2^63 on; the word numbered n holds those numbered from 64 * n on
 abbrev pub place_numbered : ℕ → ℤ

@@ -1,9 +1,9 @@
 // The tape: its cells, its head and its moves.
 ghost use Rattle.std.specs.Prelude.{◌≡◌, IfOk, OnOk, OnErr, [], ◌∷◌, ◌++◌};
-ghost use Rattle.machine_text.specs.declared.transition.Dir.TheVariants.{L, R};
+ghost use Rattle.machine_text.specs.declared.table.Dir.TheVariants.{L, R};
 ghost use Rattle.tape.specs.inside.{IsNearest};
 
-use crate::bits::{symbol_at, with_symbol};
+use crate::cell::{symbol_at, with_symbol};
 use crate::limits::MAX_PLACE;
 use machine_text::Sym;
 use std::alloc::{AllocError, Global};
@@ -36,7 +36,7 @@ pub struct Tape {
 
 impl Model for Tape {
     ghost use Rattle.std.specs.Prelude.{length};
-    ghost use Rattle.law_turing.specs.Tape.{Tape, tape_code};
+    ghost use Rattle.law_turing.specs.Terms.{Tape, tape_code};
     ghost use Rattle.tape.specs.inside.{stored, IsPacked};
 
     ghost Value = { Tape };
@@ -49,9 +49,9 @@ impl Model for Tape {
 }
 
 impl Tape {
-    ghost use Rattle.law_turing.specs.Tape.{blank, symbol_read, written, moved};
+    ghost use Rattle.law_turing.specs.Terms.{blank, symbol_read, written, moved};
     ghost use Rattle.tape.specs.Limits.{place_limit};
-    ghost use Rattle.tape.specs.Places.{IsWithinLimit};
+    ghost use Rattle.tape.specs.Cells.{IsWithinLimit};
 
     /// The blank tape with its head at 0.
     pub fn new(alloc: Global) -> Tape
@@ -95,7 +95,7 @@ impl Tape {
 
     /// Moves the head by one cell to the left. After an error the tape is as it was.
     #[inline]
-    #[tactic(auto, using(crate::proofs::Cells::rewritten))]
+    #[tactic(auto, using(crate::proofs::PackedCells::rewritten))]
     pub fn left(&mut self) -> Result<(), NoMemory>
         requires { IsWithinLimit self.old.head }
         ensures ok { OnOk result (self.new ≡ moved self.old L) }
@@ -106,7 +106,7 @@ impl Tape {
 
     /// Moves the head by one cell to the right. After an error the tape is as it was.
     #[inline]
-    #[tactic(auto, using(crate::proofs::Cells::rewritten))]
+    #[tactic(auto, using(crate::proofs::PackedCells::rewritten))]
     pub fn right(&mut self) -> Result<(), NoMemory>
         requires { IsWithinLimit self.old.head }
         ensures ok { OnOk result (self.new ≡ moved self.old R) }

@@ -1,5 +1,2 @@
 pub mod Cuts
-pub mod Lines
-pub mod Worth
-pub mod Numbers
-pub mod Spaced
+pub mod DecimalFields

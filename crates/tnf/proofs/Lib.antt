@@ -1,5 +1,2 @@
-mod EntriesLeft
-mod FirstChildren
-mod Marks
+mod ChildLists
 mod UsedLists
-mod Members

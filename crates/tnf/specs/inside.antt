@@ -1,13 +1,13 @@
 -- What only the code needs: which states an entry uses, and the children that are left, from one on.
 use Rattle.std.specs.Prelude.{ℕ, ◌-◌, ◌==◌, ◌||◌, ◌++◌, Bool, false, List, [], map, Option, Some, None}
 use Rattle.std.specs.List.{range_with_len}
-use Rattle.machine_text.specs.declared.transition.Sym.{Sym}
-use Rattle.machine_text.specs.declared.transition.Sym.TheVariants.{Zero, One}
-use Rattle.machine_text.specs.declared.transition.Dir.{Dir}
-use Rattle.machine_text.specs.declared.transition.Dir.TheVariants.{L, R}
-use Rattle.machine_text.specs.declared.transition.Entry.{Entry}
-use Rattle.machine_text.specs.Packed.{Packed, with_entry}
-use Rattle.law_tree.specs.Children.{entries_to}
+use Rattle.machine_text.specs.declared.table.Sym.{Sym}
+use Rattle.machine_text.specs.declared.table.Sym.TheVariants.{Zero, One}
+use Rattle.machine_text.specs.declared.table.Dir.{Dir}
+use Rattle.machine_text.specs.declared.table.Dir.TheVariants.{L, R}
+use Rattle.machine_text.specs.declared.table.Entry.{Entry}
+use Rattle.machine_text.specs.Terms.{Packed, with_entry}
+use Rattle.law_tree.specs.Terms.{entries_to}
 
 -- whether an entry of state number p, if there is one, uses a state: p itself and its target
 abbrev pub is_named : ℕ → Option Entry → ℕ → Bool

@@ -5,14 +5,12 @@ ghost use Rattle.std.specs.Option.{ForSome};
 ghost use Rattle.std.specs.Ordering.{nat_cmp};
 ghost use Rattle.std.specs.declared.cmp.Ordering.TheVariants.{Less};
 ghost use Rattle.std.specs.Cmp.Lexicographic.{slice_cmp};
-ghost use Rattle.machine_text.specs.Packed.{Packed, entry_of};
-ghost use Rattle.machine_text.specs.Text.{text_of};
-ghost use Rattle.law_tree.specs.Used.{InOrder};
-ghost use Rattle.law_tree.specs.Tables.{children_at};
+ghost use Rattle.machine_text.specs.Terms.{Packed, entry_of, text_of};
+ghost use Rattle.law_tree.specs.Terms.{InOrder, children_at};
 ghost use Rattle.tnf.specs.Children.{IsChildAt};
 ghost use Rattle.tnf.specs.inside.{entries_left};
 
-use crate::naming::used;
+use crate::tables::used;
 use machine_text::{Dir, Entry, State, Sym, Table};
 use std::marker::Model;
 
@@ -33,7 +31,7 @@ pub struct Children {
 impl Model for Children {
     ghost use Rattle.std.specs.Prelude.{◌<◌, ◌≤◌, List};
     ghost use Rattle.std.specs.Option.{ForSome};
-    ghost use Rattle.machine_text.specs.Packed.{Packed};
+    ghost use Rattle.machine_text.specs.Terms.{Packed};
     ghost use Rattle.tnf.specs.inside.{tables_left};
 
     ghost Value = { List Packed };

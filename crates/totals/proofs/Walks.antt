@@ -1,41 +1,78 @@
--- What a walk holds once it goes on, and what it tells.
-use Rattle.std.proofs.Common.{◌≡◌, ℕ, ◌+◌, ◌-◌, ◌≤◌, List, [], ◌∷◌, ◌++◌, length, take, get_or, Option, Some, None, option_map, Result, Ok, Err, OnOk, OnErr, inl, inr, refl, sym, ◌∙◌, ap, subst, arith, append-nil, append_assoc, length-append}
+-- What a walk holds and tells once it goes on by a table.
+use Rattle.std.proofs.Common.{◌≡◌, ◌≢◌, ◌≤◌, List, [], ◌∷◌, ◌++◌, length, subst, arith, ℕ, ◌+◌, ◌-◌, take, get_or, Option, Some, None, option_map, Result, Ok, Err, OnOk, OnErr, inl, inr, refl, sym, ◌∙◌, ap, append-nil, append_assoc, length-append, reverse}
 use Rattle.std.specs.Prelude.{slice_get}
-use Rattle.std.specs.List.{All}
+use Rattle.std.specs.List.{All, Contains, AllPairs, insert}
 use Rattle.std.specs.declared.alloc.AllocError.{AllocError as NoMemory}
 use Rattle.std.proofs.Math.Seq.{take-length}
-use Rattle.std.proofs.lemmas.List.{take_more}
+use Rattle.std.proofs.lemmas.List.{take_more, reverse-append}
 use Rattle.std.proofs.lemmas.List.Elements.{All-nil, All-cons, All-append}
 use Rattle.std.proofs.lemmas.Option.{slice_get_within, get_or_from_slice_get}
-use Rattle.machine_text.specs.Packed.{Packed, IsTable, entry_of}
+use Rattle.std.specs.List.Sorted.{IsPermutation}
+use Rattle.std.proofs.lemmas.List.Edits.{insert-append_right}
+use Rattle.std.proofs.lemmas.List.Sorted.{Contains-permutation, IsPermutation-reverse, IsPermutation-sym}
+use Rattle.machine_text.specs.Terms.{Packed, IsTable, entry_of}
+use Rattle.law_tree.specs.Terms.{IsOpen, Mark, Halting, NeverHalting, Holdout, InOrder}
+use Rattle.cert.specs.Terms.{Claim, Recorded, shown_by, IsCertified, IsShownBy, scored, owned_claim, owned_recorded}
+use Rattle.ledger.specs.Terms.{HasScore, IsHeld, mark_in, IsHoldout, mark_of, IsHalting, IsNeverHalting, IsChampion, IsOnesChampion}
+use Rattle.ledger.proofs.Amounts.{many_less, none_many}
+use Rattle.totals.specs.Totals.{AreExactly, AreTotals, Totals, totals_with, Walked, IsWalked, IsAnswered, WalksOn}
+use Rattle.totals.proofs.TrunkAndParts.{both_held, both_open, one_opens}
+use Rattle.totals.proofs.Wholes.{both_totals}
+use Rattle.totals.specs.inside.{totals_of_one, IsLast, IsOfRecords, TakesLast, totals_of_none}
+use Rattle.totals.proofs.SingleRecords.{exactly_both, last_of_kind, without_last, alone, held_alone, totals_alone, opened_alone, many_of, exactly_one, exactly_none}
 use Rattle.kind_evidence.specs.declared.verdicts.Verdict.{Verdict}
-use Rattle.law_tree.specs.Closed.{Mark, Halting, NeverHalting, Holdout, IsOpen}
-use Rattle.law_tree.specs.Used.{InOrder}
 use Rattle.law_tree.proofs.TableLaws.{tree_table_child, tree_alike}
-use Rattle.cert.specs.Claim.{Claim, Recorded, shown_by}
-use Rattle.cert.specs.Certified.{IsShownBy}
-use Rattle.cert.specs.Kinds.{owned_claim, owned_recorded}
-use Rattle.cert.specs.Scored.{scored}
 use Rattle.cert.specs.declared.record.OwnedRecord.{OwnedRecord}
 use Rattle.cert.specs.declared.judgement.Judged.{Judged}
-use Rattle.cert.proofs.Scores.{score_shown}
-use Rattle.ledger.specs.Held.{HasScore, IsHoldout}
-use Rattle.ledger.specs.Records.{mark_in, mark_of}
-use Rattle.ledger.specs.Tally.{IsHalting, IsNeverHalting, IsChampion, IsOnesChampion}
-use Rattle.ledger.proofs.Amounts.{none_many}
+use Rattle.cert.proofs.Claims.{score_shown}
 use Rattle.ledger.proofs.Claims.{claim_none}
 use Rattle.ledger.proofs.HeldLaws.{scored_has}
-use Rattle.ledger.proofs.OpenAfter.{on_ok}
-use Rattle.ledger.proofs.OpenLaws.{open_in_tree}
-use Rattle.ledger.proofs.Taking.{Below, KeepsOrder, open_in_order}
-use Rattle.totals.specs.Totals.{AreExactly, AreTotals, Totals, totals_with}
-use Rattle.totals.specs.Walk.{Walked, IsWalked, IsAnswered, WalksOn}
-use Rattle.totals.specs.inside.Steps.{IsLast, IsOfRecords, TakesLast}
-use Rattle.totals.specs.inside.Sums.{totals_of_none, totals_of_one}
-use Rattle.totals.proofs.One.{alone, opened_alone}
-use Rattle.totals.proofs.Exactly.{many_of, exactly_one, exactly_none}
-use Rattle.totals.proofs.Steps.{one_walked, some_counted, top_open}
-use Rattle.totals.proofs.Told.{board_of}
+use Rattle.ledger.proofs.OpenLaws.{on_ok, open_in_tree}
+use Rattle.ledger.proofs.BoardLaws.{Below, KeepsOrder, open_in_order}
+use Rattle.totals.proofs.ToldRecords.{board_of}
+use Rattle.ledger.proofs.Sets.{permuted_once}
+
+-- A walk goes on by one table.
+
+-- the table on top is open
+pub top_open : (w : Walked) (rs : List Recorded) (below : List Packed) (t : Packed) → IsWalked w rs → w.ahead ≡ below ++ (t ∷ []) → IsOpen w.root (mark_in rs) t
+top_open w rs below t walked top = last_of_kind (IsOpen w.root (mark_in rs)) below t (subst (AreExactly (IsOpen w.root (mark_in rs))) top walked.are_open)
+
+-- records that are held from it come behind the others, what is open by them in its place, and their totals to the totals
+pub part_walked : (w : Walked) (rs : List Recorded) (below : List Packed) (t : Packed) (ps : List Recorded) (found : List Packed) (totals : Totals) → IsWalked w rs → w.ahead ≡ below ++ (t ∷ [])
+    → IsHeld t ps → AreExactly (IsOpen t (mark_in ps)) found → AreTotals t ps totals
+    → IsWalked (record { root = w.root; ahead = below ++ found; totals = totals_with w.totals totals }) (rs ++ ps)
+part_walked w rs below t ps found totals walked top held opened are =
+    let board = walked.is_board in
+    let is_open = top_open w rs below t walked top in
+    let others = without_last (IsOpen w.root (mark_in rs)) below t (subst (AreExactly (IsOpen w.root (mark_in rs))) top walked.are_open) in record {
+      is_board = record { is_table = board.is_table; in_order = board.in_order; held = both_held w.root t rs board.is_table board.held is_open ps held };
+      are_open = exactly_both (λ q. IsOpen w.root (mark_in rs) q × (q ≢ t)) (IsOpen t (mark_in ps)) (IsOpen w.root (mark_in (rs ++ ps))) below found
+          (λ q. both_open w.root t rs board.is_table board.held is_open ps held q)
+          (λ q k l. k.1 (one_opens w.root t rs board.is_table board.held is_open ps held q k.0 l)) others opened;
+      totals_are = both_totals w.root t rs board.is_table board.held is_open ps held w.totals totals walked.totals_are are;
+    }
+
+-- so does its record alone
+pub one_walked : (w : Walked) (rs : List Recorded) (below found : List Packed) (t : Packed) (c : Claim) → IsWalked w rs → w.ahead ≡ below ++ (t ∷ [])
+    → IsCertified (record { table = t; claim = c }) → HasScore (record { table = t; claim = c }) → AreExactly (IsOpen t (mark_in (alone t c))) found
+    → IsWalked (record { root = w.root; ahead = below ++ found; totals = totals_with w.totals (totals_of_one t (shown_by c t) (length found)) }) (rs ++ alone t c)
+one_walked w rs below found t c walked top certified scored opened =
+    part_walked w rs below t (alone t c) found (totals_of_one t (shown_by c t) (length found)) walked top (held_alone t c certified scored) opened (totals_alone t c found opened)
+
+-- and a walk of its subtree
+pub walk_walked : (w p : Walked) (rs ps : List Recorded) (below : List Packed) → IsWalked w rs → w.ahead ≡ below ++ (p.root ∷ []) → IsWalked p ps
+    → IsWalked (record { root = w.root; ahead = below ++ p.ahead; totals = totals_with w.totals p.totals }) (rs ++ ps)
+walk_walked w p rs ps below walked top part = part_walked w rs below p.root ps p.ahead p.totals walked top part.is_board.held part.are_open part.totals_are
+
+-- so there is a table to be counted off
+pub some_counted : (w : Walked) (rs : List Recorded) (below : List Packed) (t : Packed) → IsWalked w rs → w.ahead ≡ below ++ (t ∷ []) → (1 ≤ w.totals.tally.nodes) × (1 ≤ w.totals.tally.open_count)
+some_counted w rs below t walked top =
+    let counted = walked.totals_are.counted in
+    let less = many_less (IsOpen w.root (mark_in rs)) t w.totals.tally.open_count counted.open_count (top_open w rs below t walked top) in
+    (omega (arith, counted.nodes, less.1), less.1)
+
+-- What a walk holds once it goes on, and what it tells.
 
 -- at the beginning the root alone is open
 none_marked : (t : Packed) (m : Mark) → mark_in [] t ≡ Some m → ⊥
@@ -156,3 +193,23 @@ module _ (D : Type 0) (answers : D → Packed → Recorded → Type 0) where
   still_of_records w (Ok done) ahead totals some on same_ahead same_totals = let more = on.more some.0 some.1 in (some.0 ++ more.0, more.3)
   still_of_records w (Err fault) ahead totals some on same_ahead same_totals =
       subst IsOfRecords (sym (ap (λ (l : List Packed). with_ahead w l totals) same_ahead ∙ ap (λ (x : Totals). with_ahead w w.ahead x) same_totals)) some
+
+-- The children of a table are put ahead, the first last.
+insert_first : (xs : List Packed) (n : ℕ) (c : Packed) → n ≡ 0 → insert xs n c ≡ c ∷ xs
+insert_first xs n c is = ap (λ (k : ℕ). insert xs k c) is
+
+-- one more is put before those that were put
+pub put_before : (xs taken : List Packed) (n : ℕ) (c : Packed) → length xs ≡ n → insert (xs ++ reverse taken) n c ≡ xs ++ reverse (taken ++ (c ∷ []))
+put_before xs taken n c is =
+    insert-append_right xs (reverse taken) n n c is (omega arith)
+    ∙ ap (λ (l : List Packed). xs ++ l) (insert_first (reverse taken) (n - n) c (omega arith) ∙ sym (reverse-append taken (c ∷ [])))
+
+-- the tables of a kind in another order
+pub exactly_permuted : (K : Packed → Type 0) (xs ys : List Packed) → IsPermutation xs ys → AreExactly K xs → AreExactly K ys
+exactly_permuted K xs ys same x = record {
+  exact = λ t. (λ at. (x.exact t).0 (Contains-permutation ys xs t (IsPermutation-sym xs ys same) at), λ k. Contains-permutation xs ys t same ((x.exact t).1 k));
+  once = permuted_once xs ys same x.once;
+}
+
+pub exactly_reverse : (K : Packed → Type 0) (xs : List Packed) → AreExactly K xs → AreExactly K (reverse xs)
+exactly_reverse K xs x = exactly_permuted K xs (reverse xs) (IsPermutation-reverse xs) x

@@ -1,5 +1,3 @@
 pub mod Totals
-pub mod Walk
-pub mod Parts
-pub mod Whole
 pub mod inside
+pub mod Terms

@@ -1,19 +1,13 @@
 // What is true of all walks, and of all trunks and parts: laws over the definitions, each the contract of a function without a
 // body.
 ghost use Rattle.std.specs.Prelude.{◌≡◌, ◌≢◌, ◌↔◌, ◌⊎◌, ℕ, List, [], ◌∷◌, ◌++◌, Contains, Option, Some, None};
-ghost use Rattle.machine_text.specs.Packed.{Packed, IsTable};
-ghost use Rattle.law_tree.specs.Closed.{Mark as WhatIsRecorded, IsOpen, IsClosed, IsComplete, Holdout};
-ghost use Rattle.law_tree.specs.Tables.{InTableTree};
-ghost use Rattle.cert.specs.Claim.{Recorded};
-ghost use Rattle.ledger.specs.Records.{mark_in};
-ghost use Rattle.ledger.specs.Held.{IsHeld, IsHoldout};
-ghost use Rattle.ledger.specs.Contents.{Contents};
-ghost use Rattle.ledger.specs.Tally.{AreAll, IsChampion, IsOnesChampion, IsStatus, IsTally};
-ghost use Rattle.ledger.specs.declared.status.Status.{Status as HowItStands};
-ghost use Rattle.ledger.specs.declared.tally.Tally.{Tally as Counted};
-ghost use Rattle.totals.specs.Totals.{totals_with, with_part};
-ghost use Rattle.totals.specs.Parts.{AreParts, IsPartOf, joined_with};
-ghost use Rattle.totals.specs.Walk.{Walked as WhatIsWalked, IsWalked};
+ghost use Rattle.machine_text.specs.Terms.{Packed, IsTable};
+ghost use Rattle.law_tree.specs.Terms.{Mark as WhatIsRecorded, IsOpen, IsClosed, IsComplete, Holdout, InTableTree};
+ghost use Rattle.cert.specs.Terms.{Recorded};
+ghost use Rattle.ledger.specs.Terms.{mark_in, IsHeld, IsHoldout, Contents, AreAll, IsChampion, IsOnesChampion, IsStatus, IsTally};
+ghost use Rattle.ledger.specs.declared.faults.Status.{Status as HowItStands};
+ghost use Rattle.ledger.specs.declared.counts.Tally.{Tally as Counted};
+ghost use Rattle.totals.specs.Totals.{totals_with, with_part, AreParts, IsPartOf, joined_with, Walked as WhatIsWalked, IsWalked};
 
 /// A walk of the subtree of the table that comes next, put in its place, is one walk, that tells of the records of both: what
 /// is ahead of it comes in the table's place, and its totals come to the others.

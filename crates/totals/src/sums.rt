@@ -1,28 +1,202 @@
-// What a report tells of some records, as it is kept, and how a part's or one table's comes to it.
-ghost use Rattle.std.specs.Prelude.{◌≡◌, ◌++◌, ◌+◌, ◌<◌, ◌≤◌, ℕ, List, Option, Some, IfOk, OnOk, OnErr, vec_len, vec_capacity};
+// What a report tells of some records: how many tables of each kind, the champions, and sums of them.
+ghost use Rattle.std.specs.Prelude.{◌≡◌, ◌+◌, ◌<◌, ◌≤◌, ◌^◌, IsTrue, List, ◌∷◌, ◌++◌, [], Some, vec_len, vec_capacity, ℕ, Option, IfOk, OnOk, OnErr};
 ghost use Rattle.std.specs.Vec.Iter.{into_iter_items};
-ghost use Rattle.machine_text.specs.Limits.{state_limit};
-ghost use Rattle.machine_text.specs.Packed.{Packed, empty_table};
-ghost use Rattle.law_turing.specs.Halting.{HaltsAt, IsRado};
-ghost use Rattle.law_tree.specs.Best.{Scores};
-ghost use Rattle.law_tree.specs.Tables.{IsBestOfTable};
-ghost use Rattle.cert.specs.Claim.{Recorded};
-ghost use Rattle.ledger.specs.Contents.{IsBoardOf};
-ghost use Rattle.ledger.specs.Held.{IsHoldout};
-ghost use Rattle.ledger.specs.Sigma.{IsSigma};
-ghost use Rattle.ledger.specs.Tally.{AreAll, IsChampion, IsGreatestCount, IsGreatestOnes, IsOnesChampion, IsStatus};
-ghost use Rattle.totals.specs.Totals.{AreTotals, totals_of, totals_with, with_part};
-ghost use Rattle.totals.specs.inside.Sums.{HasRoomForOne, HasRoomFor, TalliesFit, listed_without, most_children, totals_of_none, totals_of_one};
+ghost use Rattle.machine_text.specs.Terms.{Packed, empty_table, state_limit};
+ghost use Rattle.cert.specs.Terms.{Recorded};
+ghost use Rattle.ledger.specs.Terms.{IsStatus, IsTally, AreAll, IsChampion, IsGreatestCount, IsGreatestOnes, IsOnesChampion, IsBoardOf, IsHoldout, IsSigma};
+ghost use Rattle.totals.specs.Totals.{with_part, champions_of_both, AreTotals, totals_of, totals_with};
+ghost use Rattle.totals.specs.inside.{CountsFit, TalliesFit, most_children, tally_of_one, listed_with, HasRoomForOne, HasRoomFor, listed_without, totals_of_none, totals_of_one};
+ghost use Rattle.law_turing.specs.Terms.{HaltsAt, IsRado};
+ghost use Rattle.law_tree.specs.Terms.{Scores, IsBestOfTable};
 
-use crate::champions::{append, join_champions, put, put_champion};
-use crate::tables::{listed, sorted};
-use crate::tallies::{counts_fit, status_by, tallies_fit, tally_of_one, with_part};
+use crate::walk::{listed, sorted};
 use cert::standing_claims_are_true;
 use kind_evidence::{NoMemory, Verdict};
 use law_tree::{best_of_closed, child_is_table, closed_tree, rado_of_complete};
 use ledger::{Board, Champions, Holdouts, Status, Tally};
-use machine_text::Table;
+use machine_text::{MAX_STATES, Table};
 use std::alloc::Global;
+
+/// The greatest number of children of a table.
+pub(crate) const MOST_CHILDREN: u64 = 4 * MAX_STATES as u64;
+
+// Whether the numbers can grow by those of one table.
+pub(crate) fn counts_fit(tally: &Tally) -> bool
+    ensures { IsTrue result → CountsFit tally.now }
+{
+    const ROOM: u64 = u64::MAX - MOST_CHILDREN;
+    tally.nodes <= ROOM
+        && tally.open_count <= ROOM
+        && tally.halting < u64::MAX
+        && tally.never < u64::MAX
+        && tally.holdouts < u64::MAX
+}
+
+// Of one table alone.
+pub(crate) fn tally_of_one(verdict: Option<Verdict>, children: u64) -> Tally
+    requires { children ≤ most_children }
+    ensures { result ≡ tally_of_one verdict children }
+{
+    let none = Tally {
+        nodes: 1 + children,
+        halting: 0,
+        never: 0,
+        holdouts: 0,
+        open_count: children,
+        best: None,
+        ones: None,
+    };
+    match verdict {
+        None => Tally {
+            holdouts: 1,
+            ..none
+        },
+        Some(Verdict::Never) => Tally { never: 1, ..none },
+        Some(Verdict::Halts { steps, ones }) => Tally {
+            halting: 1,
+            best: Some(steps),
+            ones: Some(ones),
+            ..none
+        },
+    }
+}
+
+// Whether the sums of a tally and a part's need no more than 64 bits.
+pub(crate) fn tallies_fit(a: &Tally, b: &Tally) -> bool
+    requires nodes { 1 ≤ a.now.nodes }
+    requires open_count { 1 ≤ a.now.open_count }
+    ensures { IsTrue result → TalliesFit a.now b.now }
+{
+    let (a, b) = (*a, *b);
+    a.nodes - 1 <= u64::MAX - b.nodes
+        && a.open_count - 1 <= u64::MAX - b.open_count
+        && a.halting <= u64::MAX - b.halting
+        && a.never <= u64::MAX - b.never
+        && a.holdouts <= u64::MAX - b.holdouts
+}
+
+// The tally with that of a part, whose root was counted as open before.
+pub(crate) fn with_part(a: &Tally, b: &Tally) -> Tally
+    requires nodes { 1 ≤ a.now.nodes }
+    requires open_count { 1 ≤ a.now.open_count }
+    requires fit { TalliesFit a.now b.now }
+    ensures { result ≡ with_part a.now b.now }
+{
+    Tally {
+        nodes: a.nodes - 1 + b.nodes,
+        halting: a.halting + b.halting,
+        never: a.never + b.never,
+        holdouts: a.holdouts + b.holdouts,
+        open_count: a.open_count - 1 + b.open_count,
+        best: a.best.max(b.best),
+        ones: a.ones.max(b.ones),
+    }
+}
+
+// Whether tables are open, or there are holdouts, or neither.
+pub(crate) fn status_by(tally: &Tally) -> Status
+    ensures { (root : Packed) (rs : List Recorded) → IsTally root rs tally.now → IsStatus root rs result }
+{
+    if tally.open_count > 0 {
+        return Status::Working {
+            count: tally.open_count,
+        };
+    }
+    if tally.holdouts > 0 {
+        return Status::Holdouts {
+            count: tally.holdouts,
+        };
+    }
+    Status::Complete {
+        best: tally.best,
+        ones: tally.ones,
+    }
+}
+
+// Makes the champions those of both lists of records, by the greatest number of each. There is room for them.
+pub(crate) fn join_champions(
+    tables: &mut Vec<Table>,
+    best: Option<u64>,
+    more: Vec<Table>,
+    best_of_more: Option<u64>,
+)
+    requires { vec_len tables.old + vec_len more ≤ vec_capacity tables.old }
+    ensures { tables.new.items ≡ champions_of_both best tables.old.items best_of_more more.items }
+{
+    match (best, best_of_more) {
+        (_, None) => {}
+        (None, Some(_)) => *tables = more,
+        (Some(a), Some(b)) => join_by(tables, a, more, b),
+    }
+}
+
+// Joins champions where each side has a greatest number.
+fn join_by(tables: &mut Vec<Table>, best: u64, more: Vec<Table>, best_of_more: u64)
+    requires { vec_len tables.old + vec_len more ≤ vec_capacity tables.old }
+    ensures { tables.new.items ≡ champions_of_both (Some best) tables.old.items (Some best_of_more) more.items }
+{
+    if best < best_of_more {
+        *tables = more;
+    } else if best == best_of_more {
+        append(tables, more);
+    }
+}
+
+// Appends tables, for which there is room.
+pub(crate) fn append(tables: &mut Vec<Table>, more: Vec<Table>)
+    requires { vec_len tables.old + vec_len more ≤ vec_capacity tables.old }
+    ensures { tables.new.items ≡ tables.old.items ++ more.items }
+{
+    match tables.extend_from_slice(&more) {
+        Ok(()) => {}
+        Err(_) => unreachable!(),
+    }
+}
+
+// Makes the champions those with a table more, which has this number, or none. There is room for it.
+pub(crate) fn put_champion(tables: &mut Vec<Table>, best: Option<u64>, t: &Table, its: Option<u64>)
+    requires { vec_len tables.old < vec_capacity tables.old }
+    ensures { tables.new.items ≡ champions_of_both best tables.old.items its (listed_with t.now its) }
+{
+    match (best, its) {
+        (_, None) => {}
+        (None, Some(_)) => put_alone(tables, t),
+        (Some(a), Some(b)) => put_by(tables, a, t, b),
+    }
+}
+
+// Puts a table where there is a greatest number.
+fn put_by(tables: &mut Vec<Table>, best: u64, t: &Table, its: u64)
+    requires { vec_len tables.old < vec_capacity tables.old }
+    ensures { tables.new.items ≡ champions_of_both (Some best) tables.old.items (Some its) (t.now ∷ []) }
+{
+    if best < its {
+        put_alone(tables, t);
+    } else if best == its {
+        put(tables, t);
+    }
+}
+
+// Makes a table the only one.
+fn put_alone(tables: &mut Vec<Table>, t: &Table)
+    requires { vec_len tables.old < vec_capacity tables.old }
+    ensures { tables.new.items ≡ t.now ∷ [] }
+{
+    tables.clear();
+    put(tables, t);
+}
+
+// Puts a table behind the others.
+pub(crate) fn put(tables: &mut Vec<Table>, t: &Table)
+    requires { vec_len tables.old < vec_capacity tables.old }
+    ensures items { tables.new.items ≡ tables.old.items ++ (t.now ∷ []) }
+    ensures capacity { vec_capacity tables.old ≤ vec_capacity tables.new }
+{
+    match tables.push(*t) {
+        Ok(()) => {}
+        Err(_) => unreachable!(),
+    }
+}
 
 /// What a report tells of some records, without the records: how many tables there are of each kind, the champions by steps
 /// and by scores, and the holdouts.

@@ -1,29 +1,140 @@
 // A walk of a tree.
-ghost use Rattle.std.specs.Prelude.{◌≡◌, ◌↔◌, ℕ, ◌≤◌, List, [], Option, Some, Err, IfOk, IsTrue, OnOk, OnErr};
+ghost use Rattle.std.specs.Prelude.{◌≡◌, ◌∷◌, [], IfOk, ◌↔◌, ◌+◌, ◌<◌, ◌≤◌, ◌++◌, ℕ, List, Contains, AllPairs, IfSome, insert, length, reverse, vec_len, vec_capacity, OnOk, OnErr, Option, Some, Err, IsTrue};
+ghost use Rattle.std.specs.List.Sorted.{IsPermutation, IsSorted};
 ghost use Rattle.std.specs.Vec.Iter.{into_iter_items};
-ghost use Rattle.machine_text.specs.Limits.{state_limit};
-ghost use Rattle.machine_text.specs.Packed.{entry_of, empty_table};
-ghost use Rattle.law_turing.specs.Halting.{HaltsAt, IsRado};
-ghost use Rattle.law_tree.specs.Best.{Scores};
-ghost use Rattle.law_tree.specs.Tables.{IsBestOfTable};
-ghost use Rattle.law_tree.specs.Used.{InOrder};
-ghost use Rattle.cert.specs.Claim.{Recorded};
-ghost use Rattle.ledger.specs.Held.{IsHoldout};
-ghost use Rattle.ledger.specs.Sigma.{IsSigma};
-ghost use Rattle.ledger.specs.Tally.{AreAll, IsChampion, IsGreatestCount, IsGreatestOnes, IsOnesChampion, IsStatus, IsTally};
-ghost use Rattle.totals.specs.Walk.{WalksOn, WalksOnFor, WalksOnSomehow, IsWalked};
+ghost use Rattle.std.specs.Ordering.{nat_cmp};
+ghost use Rattle.std.specs.declared.cmp.Ordering.TheVariants.{Less};
+ghost use Rattle.std.specs.Cmp.Lexicographic.{slice_cmp};
+ghost use Rattle.machine_text.specs.Terms.{table_cmp, Packed, entry_of, empty_table, text_of, state_limit};
+ghost use Rattle.law_tree.specs.Terms.{InOrder, IsChildTable, Scores, IsBestOfTable};
+ghost use Rattle.cert.specs.Terms.{HaltsOnPair, Recorded};
+ghost use Rattle.totals.specs.inside.{AreOpenedBy, most_children, IsJudgedFor, IsLast, TakesLast};
+ghost use Rattle.totals.specs.Totals.{totals_of, WalksOn, WalksOnFor, WalksOnSomehow, IsWalked};
+ghost use Rattle.law_turing.specs.Terms.{HaltsAt, IsRado};
+ghost use Rattle.ledger.specs.Terms.{IsHoldout, IsSigma, AreAll, IsChampion, IsGreatestCount, IsGreatestOnes, IsOnesChampion, IsStatus, IsTally};
 
-use crate::sums::Sums;
-use crate::tables::only;
-use crate::taking::take;
-use cert::Decider;
+use crate::sums::{MOST_CHILDREN, Sums};
+use cert::{Decider, Judged};
 use kind_evidence::NoMemory;
-use law_tree::child_is_table;
+use law_tree::{child_is_table, children_listed};
 use ledger::{BoardFault, Champions, Holdouts, Status, Tally};
-use machine_text::Table;
+use machine_text::{Pair, Table};
 use std::alloc::Global;
 use std::marker::Model;
-use tnf::in_order;
+use std::vec::IntoIter;
+use tnf::{Children, children, in_order};
+
+// The tables that are left.
+pub(crate) fn listed(alloc: Global, tables: IntoIter<Table>) -> Result<Vec<Table>, NoMemory>
+    ensures { IfOk result (λ found. found.items ≡ into_iter_items tables) }
+{
+    let mut found = Vec::new(alloc);
+    for table in tables {
+        found.push(table)?;
+    }
+    Ok(found)
+}
+
+// A copy of the tables, in the order of their texts.
+pub(crate) fn sorted(alloc: Global, tables: &[Table]) -> Result<IntoIter<Table>, NoMemory>
+    ensures same { IfOk result (λ found. IsPermutation tables.now (into_iter_items found)) }
+    ensures sorted { IfOk result (λ found. IsSorted table_cmp (into_iter_items found)) }
+{
+    let mut copied = Vec::from_slice(alloc, tables)?;
+    copied.sort()?;
+    Ok(copied.into_iter())
+}
+
+// The table alone.
+pub(crate) fn only(alloc: Global, t: Table) -> Result<Vec<Table>, NoMemory>
+    ensures { IfOk result (λ found. found.items ≡ t ∷ []) }
+{
+    let mut found = Vec::new(alloc);
+    found.push(t)?;
+    Ok(found)
+}
+
+// Puts the children of a table ahead, where it is known to halt on a pair; else it has none. How many they are.
+pub(crate) fn open_children(ahead: &mut Vec<Table>, t: &Table, halts_on: Option<Pair>) -> u64
+    requires in_order { (u : ℕ) × InOrder u (entry_of t.now) }
+    requires halts { IfSome halts_on (λ pair. (k : ℕ) × HaltsOnPair t.now k pair) }
+    requires room { vec_len ahead.old + most_children ≤ vec_capacity ahead.old }
+    ensures opened { (found : List Packed) × (ahead.new.items ≡ ahead.old.items ++ found) × (result ≡ length found)
+        × AreOpenedBy t.now halts_on found }
+    ensures few { result ≤ most_children }
+{
+    match halts_on {
+        Some(pair) => put_all(ahead, children_on(t, pair)),
+        None => 0,
+    }
+}
+
+// The children of a table in order that halts on a pair.
+fn children_on(parent: &Table, pair: Pair) -> Children
+    requires in_order { (u : ℕ) × InOrder u (entry_of parent.now) }
+    requires halts { (k : ℕ) × HaltsOnPair parent.now k pair }
+    ensures members { (t : Packed) → Contains result t ↔ IsChildTable parent.now t }
+    ensures rising { AllPairs (λ a b. slice_cmp nat_cmp (text_of a) (text_of b) ≡ Less) result }
+    ensures few { length result ≤ most_children }
+{
+    children_listed();
+    // The proof needs that the parent is a table.
+    let _ = parent.states();
+    children(parent, pair.state, pair.symbol)
+}
+
+// Puts all ahead, for which there is room, in their order: the first comes next, so it is the last. How many they are.
+fn put_all(ahead: &mut Vec<Table>, found: Children) -> u64
+    requires { vec_len ahead.old + length found ≤ vec_capacity ahead.old }
+    ensures items { ahead.new.items ≡ ahead.old.items ++ reverse found }
+    ensures number { result ≡ length found }
+{
+    let before = ahead.len();
+    for child in found {
+        put_at(ahead, before, &child);
+    }
+    (ahead.len() - before) as u64
+}
+
+// Puts a table at a place, for which there is room.
+fn put_at(tables: &mut Vec<Table>, place: usize, t: &Table)
+    requires place { place ≤ vec_len tables.old }
+    requires room { vec_len tables.old < vec_capacity tables.old }
+    ensures items { tables.new.items ≡ insert tables.old.items place t.now }
+    ensures len { vec_len tables.new ≡ vec_len tables.old + 1 }
+    ensures capacity { vec_capacity tables.old ≤ vec_capacity tables.new }
+{
+    match tables.insert(place, *t) {
+        Ok(()) => {}
+        Err(_) => unreachable!(),
+    }
+}
+
+// Takes the last of the tables ahead, which is decided: its children come in its place. After an error nothing has changed.
+pub(crate) fn take(
+    ahead: &mut Vec<Table>,
+    sums: &mut Sums,
+    t: &Table,
+    judged: &Judged,
+) -> Result<(), NoMemory>
+    requires in_order { (u : ℕ) × InOrder u (entry_of t.now) }
+    requires last { IsLast ahead.old.items t.now }
+    requires judged { IsJudgedFor t.now judged.now }
+    requires nodes { 1 ≤ (totals_of sums.old).tally.nodes }
+    requires open_count { 1 ≤ (totals_of sums.old).tally.open_count }
+    ensures takes { OnOk result (TakesLast t.now judged.now ahead.old.items ahead.new.items (totals_of sums.old)
+        (totals_of sums.new)) }
+    ensures same_ahead { OnErr result (ahead.new.items ≡ ahead.old.items) }
+    ensures same_totals { OnErr result (totals_of sums.new ≡ totals_of sums.old) }
+{
+    sums.make_ready()?;
+    ahead.reserve(MOST_CHILDREN as usize)?;
+    // From here on nothing is refused: there is room for the table and its children.
+    let _ = ahead.pop();
+    let children = open_children(ahead, t, judged.halts_on);
+    sums.add_one(t, judged.verdict, children);
+    Ok(())
+}
 
 /// A walk of the tree of a root. It holds the tables that it found and hasn't decided yet, and of those that it decided what
 /// a report tells of them, with no record of each.
@@ -37,9 +148,8 @@ pub struct Walk {
 }
 
 impl Model for Walk {
-    ghost use Rattle.totals.specs.Totals.{totals_of};
-    ghost use Rattle.totals.specs.Walk.{Walked};
-    ghost use Rattle.totals.specs.inside.Steps.{IsOfRecords};
+    ghost use Rattle.totals.specs.Totals.{totals_of, Walked};
+    ghost use Rattle.totals.specs.inside.{IsOfRecords};
 
     ghost Value = { Walked };
 

@@ -1,20 +1,14 @@
 // A trunk and the parts that were added to it, told of together.
-ghost use Rattle.std.specs.Prelude.{◌≡◌, ℕ, ◌≤◌, List, [], Option, Some, IfOk};
+ghost use Rattle.std.specs.Prelude.{◌≡◌, ◌≤◌, ◌↔◌, ◌∷◌, ◌++◌, [], Contains, IfErr, OnOk, OnErr, IsTrue, ℕ, List, Option, Some, IfOk};
 ghost use Rattle.std.specs.Vec.Iter.{into_iter_items};
-ghost use Rattle.machine_text.specs.Limits.{state_limit};
-ghost use Rattle.machine_text.specs.Packed.{empty_table};
-ghost use Rattle.law_turing.specs.Halting.{HaltsAt, IsRado};
-ghost use Rattle.law_tree.specs.Best.{Scores};
-ghost use Rattle.law_tree.specs.Tables.{IsBestOfTable};
-ghost use Rattle.ledger.specs.Contents.{Contents};
-ghost use Rattle.ledger.specs.Held.{IsHoldout};
-ghost use Rattle.ledger.specs.Sigma.{IsSigma};
-ghost use Rattle.ledger.specs.Tally.{AreAll, IsChampion, IsGreatestCount, IsGreatestOnes, IsOnesChampion, IsStatus, IsTally};
-ghost use Rattle.totals.specs.Parts.{joined_with};
-ghost use Rattle.totals.specs.Whole.{AddGives, IsWhole};
+ghost use Rattle.indexmap.specs.IndexSet.{spare};
+ghost use Rattle.totals.specs.Totals.{totals_of, joined_with, AddGives, IsWhole};
+ghost use Rattle.totals.specs.inside.{AddsTotals};
+ghost use Rattle.machine_text.specs.Terms.{state_limit, empty_table};
+ghost use Rattle.law_turing.specs.Terms.{HaltsAt, IsRado};
+ghost use Rattle.law_tree.specs.Terms.{Scores, IsBestOfTable};
+ghost use Rattle.ledger.specs.Terms.{Contents, IsHoldout, IsSigma, AreAll, IsChampion, IsGreatestCount, IsGreatestOnes, IsOnesChampion, IsStatus, IsTally};
 
-use crate::adding::{add_part, has_root};
-use crate::part_fault::PartFault;
 use crate::sums::Sums;
 use indexmap::IndexSet;
 use kind_evidence::NoMemory;
@@ -22,6 +16,71 @@ use ledger::{Board, Champions, Holdouts, Status, Tally};
 use machine_text::Table;
 use std::alloc::Global;
 use std::marker::Model;
+
+/// Why a part wasn't added to a whole. Nothing changed.
+#[derive(Clone, Copy, Debug, PartialEq, Eq)]
+pub enum PartFault {
+    /// The trunk doesn't leave the part's root open.
+    NotOpen,
+    /// A part with this root was added before.
+    AddedBefore,
+    /// Memory was refused, or a number of the tally would need more than 64 bits.
+    NoMemory,
+}
+
+impl From<NoMemory> for PartFault {
+    ghost use Rattle.totals.specs.declared.whole.PartFault.TheVariants.{NoMemory};
+
+    ghost from_gives = { λ _ e. e ≡ NoMemory };
+
+    fn from(_: NoMemory) -> PartFault {
+        PartFault::NoMemory
+    }
+}
+
+// Whether a part with this root was added.
+pub(crate) fn has_root(roots: &IndexSet<Table>, root: &Table) -> bool
+    ensures { IsTrue result ↔ Contains roots.now.keys root.now }
+{
+    roots.contains(root)
+}
+
+// Adds the root of a part and what is told of it. Where memory is refused, or a number of the tally would need more than
+// 64 bits, nothing changes.
+pub(crate) fn add_part(
+    alloc: Global,
+    roots: &mut IndexSet<Table>,
+    sums: &mut Sums,
+    part: &Board,
+) -> Result<(), PartFault>
+    requires nodes { 1 ≤ (totals_of sums.old).tally.nodes }
+    requires open_count { 1 ≤ (totals_of sums.old).tally.open_count }
+    requires fresh { Contains roots.old.keys part.now.root → ⊥ }
+    ensures roots { OnOk result (roots.new.keys ≡ roots.old.keys ++ (part.now.root ∷ [])) }
+    ensures totals { OnOk result (AddsTotals part.now (totals_of sums.old) (totals_of sums.new)) }
+    ensures same_roots { OnErr result (roots.new.keys ≡ roots.old.keys) }
+    ensures same_totals { OnErr result (totals_of sums.new ≡ totals_of sums.old) }
+    ensures fault { IfErr result (λ fault. fault ≡ PartFault.NoMemory) }
+{
+    let more = Sums::of(alloc, part)?;
+    roots.reserve(1)?;
+    sums.add(more)?;
+    // From here on nothing is refused: there is room for the root.
+    put_root(roots, part.root());
+    Ok(())
+}
+
+// Adds a root that isn't there, and for which there is room.
+fn put_root(roots: &mut IndexSet<Table>, root: &Table)
+    requires room { 1 ≤ spare roots.old }
+    requires fresh { Contains roots.old.keys root.now → ⊥ }
+    ensures { roots.new.keys ≡ roots.old.keys ++ (root.now ∷ []) }
+{
+    match roots.insert(*root) {
+        Ok(_) => {}
+        Err(_) => unreachable!(),
+    }
+}
 
 /// A tree whose records are held in parts: the board of its trunk, and what a report tells of the trunk and of the parts
 /// that were added to it, all together. The board of a part isn't kept once it is added.
@@ -35,9 +94,8 @@ pub struct Whole {
 }
 
 impl Model for Whole {
-    ghost use Rattle.totals.specs.Totals.{totals_of};
-    ghost use Rattle.totals.specs.Whole.{Collected};
-    ghost use Rattle.totals.specs.inside.Parts.{IsOfParts};
+    ghost use Rattle.totals.specs.Totals.{totals_of, Collected};
+    ghost use Rattle.totals.specs.inside.{IsOfParts};
 
     ghost Value = { Collected };
 

@@ -1,7 +1,6 @@
 // What the board of a node says.
 use crate::records::say_verdict;
-use crate::said::Said;
-use crate::words::{say_table, table_of, unread};
+use crate::words::{Said, say_table, table_of, unread};
 use ledger::{Board, Bound, Status, Tally};
 use machine_text::Table;
 use std::alloc::AllocError as NoMemory;

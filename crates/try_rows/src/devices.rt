@@ -1,6 +1,6 @@
 // A coordinator of one state over a ledger or a link in memory that fails at each of its calls in turn.
 use crate::nodes::coordinator;
-use crate::said::Said;
+use crate::words::Said;
 use lease_core::Coordinator;
 use std::alloc::{AllocError as NoMemory, Global};
 use wire::{Lines, MemLedger, MemLink, Node, NodeFault, Out, Turn, TurnFault, begin, turn};

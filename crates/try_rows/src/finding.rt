@@ -1,6 +1,5 @@
 // What looks for certificates and for automata.
-use crate::said::Said;
-use crate::words::{number_of, parted, table_of, unread};
+use crate::words::{Said, number_of, parted, table_of, unread};
 use backward::BackwardFinder;
 use cert::{Certificate, Finder, OwnedCertificate, OwnedRecord, Record, decide};
 use far::FarFinder;

@@ -1,5 +1,5 @@
 // Rows that are kept, or told.
-use crate::said::Said;
+use crate::words::Said;
 use std::alloc::{AllocError as NoMemory, Global};
 use std::io::{self, BufRead, BufReader, Write};
 use std::process::ExitCode;

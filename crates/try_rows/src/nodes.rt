@@ -1,6 +1,5 @@
 // A coordinator or a worker with its ledger, and what happens to it.
-use crate::said::Said;
-use crate::words::{number_of, unread};
+use crate::words::{Said, number_of, unread};
 use cert::Finders;
 use lease_core::{Coordinator, StartFault, Worker};
 use ledger::Board;

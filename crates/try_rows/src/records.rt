@@ -1,6 +1,5 @@
 // Records that are judged, and of Skelet 1 whether its run is seen to repeat.
-use crate::said::Said;
-use crate::words::{number_of, parted, table_of, unread};
+use crate::words::{Said, number_of, parted, table_of, unread};
 use cert::{Record, judge};
 use kind_evidence::{NoMemory, Verdict};
 use kind_named::{GivenUp, never_halts};

@@ -1,8 +1,3 @@
-pub mod Cutting
-pub mod Feeding
-pub mod ReadBack
-pub mod OneLine
-pub mod Devices
-pub mod Outcomes
-pub mod Replies
-pub mod Together
+pub mod LineLaws
+pub mod MessageTexts
+pub mod Answers

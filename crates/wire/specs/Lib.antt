@@ -1,13 +1,5 @@
 pub mod Limits
-pub mod Lines
-pub mod Message
-pub mod MessageFault
-pub mod Grammar
-pub mod Meaning
-pub mod inside
-pub mod Happening
 pub mod Fulfilled
-pub mod Device
-pub mod Memory
-pub mod Faults
-pub mod Turned
+pub mod Message
+pub mod inside
+pub mod Terms

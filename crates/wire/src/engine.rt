@@ -1,18 +1,95 @@
-// The engine: what runs a node over its link and its ledger.
+// What every link and every ledger promises, and the engine, which runs a node over them.
 ghost use Rattle.std.specs.Prelude.{◌≡◌, ◌≢◌, ◌≤◌, ℕ, List, [], length, Ok, OnOk, OnErr, IfErr, IfSome};
-ghost use Rattle.wire.specs.Fulfilled.{kept_text, IsPartlyKept, scene};
-ghost use Rattle.wire.specs.Device.{preceded};
+ghost use Rattle.wire.specs.Fulfilled.{kept_text, IsPartlyKept, scene, preceded, EndsInStep, TakesPiece, Turned, devices};
 ghost use Rattle.wire.specs.Limits.{piece_byte_limit};
-ghost use Rattle.wire.specs.Turned.{EndsInStep, TakesPiece, Turned, devices};
 
-use crate::fulfilling::keep;
-use crate::handing::hand_all;
-use crate::ledger_out::LedgerOut;
+use crate::handing::{Turn, TurnFault, hand_all, keep};
 use crate::limits::MAX_PIECE_BYTES;
 use crate::lines::Lines;
-use crate::link::Link;
 use crate::node::{Node, Out};
-use crate::turned::{Turn, TurnFault};
+use std::error::Error;
+use std::fmt;
+
+/// A call of a link or of a ledger failed.
+#[derive(Clone, Copy, Debug, PartialEq, Eq)]
+pub struct Fault;
+
+impl fmt::Display for Fault {
+    ghost use Rattle.std.specs.Prelude.{Some, codes};
+
+    ghost output = { λ _. Some (codes "the device failed") };
+
+    fn fmt<W: fmt::Write>(&self, f: &mut fmt::Formatter<W>) -> fmt::Result {
+        f.write_str("the device failed")
+    }
+}
+
+impl Error for Fault {}
+
+/// A stream of bytes in both directions.
+pub trait Link {
+    ghost use Rattle.std.specs.Prelude.{◌≡◌, ◌≢◌, ◌<◌, ◌≤◌, ℕ, List, [], Option, Some, Ok, IfOk, IfSome, OnErr, length, take};
+    ghost use Rattle.wire.specs.Fulfilled.{grown, preceded, IsBegun, IsRefusal};
+
+    /// What it has still to deliver, where that is known.
+    ghost waiting: { Self → Option (List ℕ) };
+
+    /// What it took to be sent, where that is known.
+    ghost sent: { Self → Option (List ℕ) };
+
+    /// A count of its failures, by which one is told.
+    ghost failures: { Self → ℕ };
+
+    /// Puts what came at the front of the buffer, and says how many bytes that is: none where the stream has
+    /// ended. After a fault nothing is lost.
+    fn receive(&mut self, buf: &mut [u8]) -> Result<usize, Fault>
+        ensures came { IfOk result (λ n. (n ≤ length buf.new)
+            × (waiting self.old ≡ preceded (take n buf.new) (waiting self.new))) }
+        ensures end { result ≡ Ok 0 → 0 < length buf.new → IfSome (waiting self.new) (λ bytes. bytes ≡ []) }
+        ensures sent { sent self.new ≡ sent self.old }
+        ensures count { IfOk result (λ n. failures self.new ≡ failures self.old) }
+        ensures err { OnErr result ((failures self.old ≢ failures self.new) × (waiting self.new ≡ waiting self.old)) };
+
+    /// Takes bytes to be sent from the front of these, and says how many: some, where there are any, unless
+    /// that counts as a failure.
+    fn send(&mut self, bytes: &[u8]) -> Result<usize, Fault>
+        ensures took { IfOk result (λ n. (n ≤ length bytes.now)
+            × (sent self.new ≡ grown (sent self.old) (take n bytes.now))) }
+        ensures count { IfOk result (λ n. (IsRefusal n bytes.now → failures self.old ≢ failures self.new)
+            × ((IsRefusal n bytes.now → ⊥) → failures self.new ≡ failures self.old)) }
+        ensures waiting { waiting self.new ≡ waiting self.old }
+        ensures err { OnErr result ((failures self.old ≢ failures self.new)
+            × IsBegun (sent self.old) bytes.now (sent self.new)) };
+}
+
+/// A text that is cut and appended to.
+pub trait LedgerOut {
+    ghost use Rattle.std.specs.Prelude.{◌≡◌, ◌≢◌, ◌⊎◌, ◌≤◌, ℕ, List, Option, IfOk, OnOk, OnErr, length, take};
+    ghost use Rattle.wire.specs.Fulfilled.{grown, shortened, IsBegun, IsRefusal};
+
+    /// What it holds, where that is known.
+    ghost text: { Self → Option (List ℕ) };
+
+    /// A count of its failures, by which one is told.
+    ghost failures: { Self → ℕ };
+
+    /// Keeps its first bytes, so many of them.
+    fn cut(&mut self, len: u64) -> Result<(), Fault>
+        ensures ok { OnOk result ((text self.new ≡ shortened len (text self.old))
+            × (failures self.new ≡ failures self.old)) }
+        ensures err { OnErr result ((failures self.old ≢ failures self.new)
+            × ((text self.new ≡ text self.old) ⊎ (text self.new ≡ shortened len (text self.old)))) };
+
+    /// Takes bytes at its end from the front of these, and says how many: some, where there are any, unless
+    /// that counts as a failure.
+    fn append(&mut self, bytes: &[u8]) -> Result<usize, Fault>
+        ensures took { IfOk result (λ n. (n ≤ length bytes.now)
+            × (text self.new ≡ grown (text self.old) (take n bytes.now))) }
+        ensures count { IfOk result (λ n. (IsRefusal n bytes.now → failures self.old ≢ failures self.new)
+            × ((IsRefusal n bytes.now → ⊥) → failures self.new ≡ failures self.old)) }
+        ensures err { OnErr result ((failures self.old ≢ failures self.new)
+            × IsBegun (text self.old) bytes.now (text self.new)) };
+}
 
 /// Carries out the ledger's part of an answer, and nothing else: its cut, and then what is to be appended,
 /// whole. After `LedgerFault` at most the cut was made and a beginning of the rest, and the caller stops

@@ -1,20 +1,184 @@
-// Handing lines to a node, and fulfilling what it answers.
-ghost use Rattle.std.specs.Prelude.{◌≡◌, ◌≢◌, ◌⊎◌, ◌∷◌, ◌++◌, [], List, None, false, true, length, IfErr, IfSome, OnOk, OnErr, Err};
-ghost use Rattle.wire.specs.Fulfilled.{BrokenTogether, Handed, IsPartlyKept, Scene, kept_text, scene};
-ghost use Rattle.wire.specs.Device.{IsBegun, grown};
-ghost use Rattle.wire.specs.Happening.{Happening};
-ghost use Rattle.wire.specs.Lines.{known};
-ghost use Rattle.wire.specs.Turned.{EndsInStep, IsBroken, devices, event_of, events_of, frame_of};
-ghost use Rattle.wire.specs.inside.Gathering.{HasGathered, TakesAnswer, text_gathered};
+// Handing lines to a node, fulfilling what it answers, and how a turn ends.
+ghost use Rattle.std.specs.Prelude.{◌≡◌, ◌≢◌, ◌⊎◌, ◌<◌, ◌≤◌, List, ℕ, OnOk, OnErr, IfErr, Some, IfSome, ◌∷◌, ◌++◌, [], None, false, true, length, Err};
+ghost use Rattle.wire.specs.Fulfilled.{grown, IsBegun, cut_to, kept_text, IsPartlyKept, BrokenTogether, Handed, Scene, scene, Happening, known, EndsInStep, IsBroken, devices, event_of, events_of, frame_of};
+ghost use Rattle.wire.specs.inside.{HasGathered, TakesAnswer, text_gathered};
 
-use crate::fault::Fault;
-use crate::fulfilling::{fulfil, keep, send_all};
-use crate::ledger_out::LedgerOut;
-use crate::line::Line;
-use crate::lines::Lines;
-use crate::link::Link;
-use crate::node::{Event, Node, Out};
-use crate::turned::TurnFault;
+use crate::engine::{Fault, LedgerOut, Link};
+use crate::lines::{Line, Lines};
+use crate::node::{Event, Node, NodeFault, Out};
+use kind_evidence::NoMemory;
+use std::error::Error;
+use std::fmt;
+
+/// Appends all of the bytes to a ledger, in as many calls as that takes; a call that takes none is a fault.
+pub fn append_all<W: LedgerOut>(ledger: &mut W, bytes: &[u8]) -> Result<(), Fault>
+    ensures ok { OnOk result ((W.text ledger.new ≡ grown (W.text ledger.old) bytes.now)
+        × (W.failures ledger.new ≡ W.failures ledger.old)) }
+    ensures err { OnErr result ((W.failures ledger.old ≢ W.failures ledger.new)
+        × IsBegun (W.text ledger.old) bytes.now (W.text ledger.new)) }
+{
+    let mut done = 0;
+    'calls: while done < bytes.len() {
+        let count = ledger.append(&bytes[done..])?;
+        if count == 0 {
+            return Err(Fault);
+        }
+        done += count;
+    }
+    Ok(())
+}
+
+// Sends all of the bytes, in as many calls as that takes.
+pub(crate) fn send_all<L: Link>(link: &mut L, bytes: &[u8]) -> Result<(), Fault>
+    ensures ok { OnOk result ((L.sent link.new ≡ grown (L.sent link.old) bytes.now)
+        × (L.failures link.new ≡ L.failures link.old)) }
+    ensures err { OnErr result ((L.failures link.old ≢ L.failures link.new)
+        × IsBegun (L.sent link.old) bytes.now (L.sent link.new)) }
+    ensures waiting { L.waiting link.new ≡ L.waiting link.old }
+{
+    let mut done = 0;
+    'calls: while done < bytes.len() {
+        let count = link.send(&bytes[done..])?;
+        if count == 0 {
+            return Err(Fault);
+        }
+        done += count;
+    }
+    Ok(())
+}
+
+// Carries out an answer's cut.
+fn cut<W: LedgerOut>(ledger: &mut W, at: Option<u64>) -> Result<(), Fault>
+    ensures ok { OnOk result ((W.text ledger.new ≡ cut_to at (W.text ledger.old))
+        × (W.failures ledger.new ≡ W.failures ledger.old)) }
+    ensures err { OnErr result ((W.failures ledger.old ≢ W.failures ledger.new)
+        × ((W.text ledger.new ≡ W.text ledger.old) ⊎ (W.text ledger.new ≡ cut_to at (W.text ledger.old)))) }
+{
+    match at {
+        Some(len) => ledger.cut(len),
+        None => Ok(()),
+    }
+}
+
+// Carries out an answer's cut, and then appends.
+pub(crate) fn keep<W: LedgerOut>(out: &Out, ledger: &mut W) -> Result<(), Fault>
+    ensures ok { OnOk result ((W.text ledger.new ≡ kept_text out.now (W.text ledger.old))
+        × (W.failures ledger.new ≡ W.failures ledger.old)) }
+    ensures err { OnErr result ((W.failures ledger.old ≢ W.failures ledger.new)
+        × IsPartlyKept out.now (W.text ledger.old) (W.text ledger.new)) }
+{
+    cut(ledger, out.cut)?;
+    append_all(ledger, &out.append)
+}
+
+/// Carries out an answer: its ledger's part first, whole, and only then its frames. Where the ledger fails,
+/// the node is stopped.
+pub fn fulfil<N: Node, L: Link, W: LedgerOut>(
+    node: &mut N,
+    link: &mut L,
+    ledger: &mut W,
+    out: &Out,
+) -> Result<(), TurnFault>
+    ensures ok { OnOk result ((node.new ≡ node.old) × (W.text ledger.new ≡ kept_text out.now (W.text ledger.old))
+        × (L.sent link.new ≡ grown (L.sent link.old) out.now.frames.items)
+        × (W.failures ledger.new ≡ W.failures ledger.old) × (L.failures link.new ≡ L.failures link.old)) }
+    ensures link { result ≡ Err TurnFault.LinkFault → (node.new ≡ node.old)
+        × (W.text ledger.new ≡ kept_text out.now (W.text ledger.old))
+        × IsBegun (L.sent link.old) out.now.frames.items (L.sent link.new)
+        × (W.failures ledger.new ≡ W.failures ledger.old) × (L.failures link.old ≢ L.failures link.new) }
+    ensures ledger { result ≡ Err TurnFault.LedgerFault → N.is_stopped node.new
+        × IsPartlyKept out.now (W.text ledger.old) (W.text ledger.new) × (L.sent link.new ≡ L.sent link.old)
+        × (W.failures ledger.old ≢ W.failures ledger.new) × (L.failures link.new ≡ L.failures link.old) }
+    ensures faults { IfErr result (λ e. (e ≡ TurnFault.LinkFault) ⊎ (e ≡ TurnFault.LedgerFault)) }
+    ensures waiting { L.waiting link.new ≡ L.waiting link.old }
+{
+    if keep(out, ledger).is_err() {
+        node.stop();
+        return Err(TurnFault::LedgerFault);
+    }
+    if send_all(link, &out.frames).is_err() {
+        return Err(TurnFault::LinkFault);
+    }
+    Ok(())
+}
+
+/// Whether more may come over the link.
+#[derive(Clone, Copy, Debug, PartialEq, Eq)]
+pub enum Turn {
+    /// Bytes came.
+    More,
+    /// No bytes came: the stream has ended.
+    End,
+}
+
+/// Why a turn, or the fulfilling out of an answer, ended before its time. What was appended before stands.
+#[derive(Clone, Copy, Debug, PartialEq, Eq)]
+pub enum TurnFault {
+    /// The link failed. A beginning of the last answers' frames was sent.
+    LinkFault,
+    /// The ledger failed. No frame of the last answers was sent, and the node is stopped.
+    LedgerFault,
+    /// The node didn't answer.
+    Node(NodeFault),
+    /// Memory was refused for the lines that came; what came is lost.
+    NoMemory,
+}
+
+impl TurnFault {
+    ghost use Rattle.wire.specs.Message.{turn_fault_number};
+
+    /// The refusal number: 603, 604, or the node's; none where memory was refused.
+    pub fn number(&self) -> Option<u16>
+        ensures { result ≡ turn_fault_number self.now }
+    {
+        match self {
+            TurnFault::LinkFault => Some(603),
+            TurnFault::LedgerFault => Some(604),
+            TurnFault::Node(fault) => fault.number(),
+            TurnFault::NoMemory => None,
+        }
+    }
+}
+
+impl fmt::Display for TurnFault {
+    ghost use Rattle.std.specs.Prelude.{Some};
+    ghost use Rattle.wire.specs.Message.{turn_fault_text};
+
+    ghost output = { λ fault. Some (turn_fault_text fault) };
+
+    fn fmt<W: fmt::Write>(&self, f: &mut fmt::Formatter<W>) -> fmt::Result {
+        match self {
+            TurnFault::LinkFault => f.write_str("the link failed"),
+            TurnFault::LedgerFault => f.write_str("the ledger failed"),
+            TurnFault::Node(NodeFault::Stopped) => f.write_str("the node is stopped"),
+            TurnFault::Node(NodeFault::NoMemory) | TurnFault::NoMemory => f.write_str(
+                "out of memory",
+            ),
+        }
+    }
+}
+
+impl Error for TurnFault {}
+
+impl From<NodeFault> for TurnFault {
+    ghost use Rattle.wire.specs.declared.handing.TurnFault.TheVariants.{Node};
+
+    ghost from_gives = { λ fault e. e ≡ Node fault };
+
+    fn from(fault: NodeFault) -> TurnFault {
+        TurnFault::Node(fault)
+    }
+}
+
+impl From<NoMemory> for TurnFault {
+    ghost use Rattle.wire.specs.declared.handing.TurnFault.TheVariants.{NoMemory};
+
+    ghost from_gives = { λ _ e. e ≡ NoMemory };
+
+    fn from(_: NoMemory) -> TurnFault {
+        TurnFault::NoMemory
+    }
+}
 
 // A line as a frame.
 fn frame_of(line: &Line) -> &[u8]

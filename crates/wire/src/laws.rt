@@ -1,10 +1,9 @@
 // What is true of all streams and messages: laws over the definitions, each the contract of a function without a
 // body.
 ghost use Rattle.std.specs.Prelude.{◌≡◌, ℕ, [], ◌++◌, List, All, Some, Ok, map};
-ghost use Rattle.text.specs.Lines.{HasNoNewline, bounded_line};
-ghost use Rattle.wire.specs.Lines.{Stream, fed, lines_from, rest_from};
-ghost use Rattle.wire.specs.Message.{Message, IsSendable};
-ghost use Rattle.wire.specs.Grammar.{message_of, message_text, frames_of};
+ghost use Rattle.text.specs.Terms.{HasNoNewline, bounded_line};
+ghost use Rattle.wire.specs.Fulfilled.{Stream, fed, lines_from, rest_from};
+ghost use Rattle.wire.specs.Message.{Message, IsSendable, message_of, message_text, frames_of};
 
 /// Two pieces in turn leave what both leave as one piece: the lines are the same however a stream is cut.
 pub fn pieces_concatenate()

@@ -1,16 +1,37 @@
 // A stream of bytes that comes in pieces, and its lines.
 ghost use Rattle.std.specs.Prelude.{◌≡◌, ◌∷◌, [], map, Some, IfSome, IfOk, IfNone, OnOk, OnErr};
 ghost use Rattle.std.specs.List.{All};
-ghost use Rattle.text.specs.Lines.{IsShort, bounded_line};
-ghost use Rattle.wire.specs.Lines.{IsShortLine, fed, known, lines_from, rest_from};
+ghost use Rattle.wire.specs.Fulfilled.{IsShortLine, known, fed, lines_from, rest_from};
+ghost use Rattle.text.specs.Terms.{IsShort, bounded_line};
 
-use crate::line::Line;
 use kind_evidence::NoMemory;
 use std::alloc::Global;
 use std::collections::VecDeque;
 use std::marker::Model;
 use std::mem;
 use text::{Cutter, cut_at};
+
+/// A line of a stream, without its newline.
+#[derive(Drop, Debug, PartialEq, Eq)]
+pub enum Line {
+    /// All its bytes, at most text's `MAX_LINE_BYTES` of them.
+    Whole(Vec<u8>),
+    /// The line has more.
+    Overlong,
+}
+
+impl Line {
+    // The line that was read.
+    pub(crate) fn of(read: Cutter) -> Line
+        ensures known { known result ≡ read }
+        ensures short { IsShortLine result }
+    {
+        match read.into_bytes() {
+            Some(bytes) => Line::Whole(bytes),
+            None => Line::Overlong,
+        }
+    }
+}
 
 /// The lines of a stream of bytes, however it is cut into pieces. Of the line that has begun, at most
 /// `MAX_LINE_BYTES` bytes are kept.
@@ -24,8 +45,8 @@ pub struct Lines {
 impl Model for Lines {
     ghost use Rattle.std.specs.Prelude.{map};
     ghost use Rattle.std.specs.List.{All};
-    ghost use Rattle.text.specs.Lines.{IsShort};
-    ghost use Rattle.wire.specs.Lines.{Stream, IsShortLine, known};
+    ghost use Rattle.text.specs.Terms.{IsShort};
+    ghost use Rattle.wire.specs.Fulfilled.{Stream, IsShortLine, known};
 
     ghost Value = { Stream };
 

@@ -72,8 +72,7 @@ pub enum NodeFault {
 /// was fulfilled it is in step again.
 pub trait Node {
     ghost use Rattle.std.specs.Prelude.{◌≡◌, ◌↔◌, ℕ, List, Result, Err, IfOk, OnErr};
-    ghost use Rattle.wire.specs.Happening.{Happening, seen};
-    ghost use Rattle.wire.specs.Fulfilled.{text_after};
+    ghost use Rattle.wire.specs.Fulfilled.{Happening, seen, text_after};
     ghost use Rattle.wire.specs.declared.node.NodeFault.{NodeFault as Failure};
     ghost use Rattle.wire.specs.declared.node.Out.{Out as Answer};
 
@@ -106,7 +105,7 @@ pub trait Node {
 }
 
 impl Note {
-    ghost use Rattle.wire.specs.Faults.{note_number};
+    ghost use Rattle.wire.specs.Message.{note_number};
 
     /// The refusal number: 501, or that of the refusal; none where nothing was refused.
     pub fn number(&self) -> Option<u16>
@@ -121,7 +120,7 @@ impl Note {
 }
 
 impl NodeFault {
-    ghost use Rattle.wire.specs.Faults.{node_fault_number};
+    ghost use Rattle.wire.specs.Message.{node_fault_number};
 
     /// The refusal number: 502; none where memory was refused.
     pub fn number(&self) -> Option<u16>
@@ -136,7 +135,7 @@ impl NodeFault {
 
 impl fmt::Display for NodeFault {
     ghost use Rattle.std.specs.Prelude.{Some};
-    ghost use Rattle.wire.specs.Faults.{node_fault_text};
+    ghost use Rattle.wire.specs.Message.{node_fault_text};
 
     ghost output = { λ fault. Some (node_fault_text fault) };
 

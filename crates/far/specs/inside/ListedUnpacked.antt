@@ -1,5 +1,5 @@
 -- The automata whose numbers are unpacked.
-use Rattle.far.specs.ListedAutomata.{ListedAutomata, listed_automata}
+use Rattle.far.specs.ListedTexts.{ListedAutomata, listed_automata}
 use Rattle.far.specs.declared.listed_unpacked.Unpacked.{Unpacked}
 
 abbrev pub numbers_of_unpacked : Unpacked → ListedAutomata

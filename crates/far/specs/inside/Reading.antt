@@ -1,9 +1,28 @@
--- How far texts are read or written.
-use Rattle.std.specs.Prelude.{◌≡◌, ℕ, ◌+◌, ◌/◌, ◌^◌, ◌<◌, ◌≤◌, List, [], ◌++◌, length, get_or, map, take, drop, slice_index}
+-- How far texts are read or written, and lists of numbers.
+use Rattle.std.specs.Prelude.{◌≡◌, ℕ, ◌+◌, ◌-◌, ◌<◌, ◌≤◌, List, length, map, take, drop, slice_index, ◌/◌, ◌^◌, [], ◌++◌, get_or}
+use Rattle.std.specs.List.{range_with_len}
 use Rattle.std.specs.Int.Digits.{digits_of}
 use Rattle.far.specs.Limits.{word_bits, move_limit, pair_limit, row_limit}
-use Rattle.text.specs.Parts.{parts_of}
+use Rattle.text.specs.Terms.{parts_of}
 use Rattle.far.specs.Texts.{hex_glyph, hex_worth, IsDigit, IsHex, delta_of}
+
+-- Lists of numbers, one behind another.
+
+-- list number k of the items: from its start to that of the next one
+abbrev pub list_at : List ℕ → List ℕ → ℕ → List ℕ
+list_at starts items k = take (slice_index starts (k + 1) - slice_index starts k) (drop (slice_index starts k) items)
+
+abbrev pub lists_between : List ℕ → List ℕ → List (List ℕ)
+lists_between starts items = map (list_at starts items) (range_with_len 0 (length starts - 1))
+
+-- the starts rise, within the items, and the last one is their end
+pub record AreStarts (starts items : List ℕ) : Type 0 where
+  pub some : 1 ≤ length starts
+  pub order : (k : ℕ) → k + 1 < length starts → slice_index starts k ≤ slice_index starts (k + 1)
+  pub within : (k : ℕ) → k < length starts → slice_index starts k ≤ length items
+  pub end : slice_index starts (length starts - 1) ≡ length items
+
+-- How far texts are read or written.
 
 -- so many digits of a number in hexadecimal are read, and they are its form
 pub record IsWorth (text : List ℕ) (reach number : ℕ) : Type 0 where

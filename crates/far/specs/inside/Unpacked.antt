@@ -1,6 +1,6 @@
 -- The automata whose numbers are unpacked.
 use Rattle.std.specs.Prelude.{◌*◌, take}
-use Rattle.far.specs.Automata.{Automata, automata}
+use Rattle.far.specs.Texts.{Automata, automata}
 use Rattle.far.specs.declared.unpacked.Unpacked.{Unpacked}
 
 abbrev pub unpacked_of : Unpacked → Automata

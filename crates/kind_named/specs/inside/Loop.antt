@@ -1,17 +1,51 @@
+-- The glider, and the main run.
+use Rattle.std.specs.Prelude.{ℕ, List, [], ◌∷◌, ◌≡◌, ◌%◌, ◌≤◌, length, Some}
+use Rattle.machine_text.specs.declared.table.Sym.{Sym}
+use Rattle.kind_named.specs.inside.Tokens.{Glides, tokens_left, machine, leftward, Visits, RopesBelow}
+use Rattle.kind_named.specs.declared.tokens.Token.{Token}
+use Rattle.kind_named.specs.declared.tokens.Token.TheVariants.{X, Y, Cut, Separator}
+use Rattle.law_turing.specs.Terms.{Config, from}
+use Rattle.law_machines.specs.Terms.{Zipper, Describes, blank_zipper, Comes, Goes}
+use Rattle.kind_named.specs.declared.visit.Answer.TheVariants.{A}
+use Rattle.kind_named.specs.declared.tokens.Beyond.{Beyond}
+use Rattle.kind_named.specs.declared.tokens.Beyond.TheVariants.{Blank}
+
+-- The glider by its tokens, and what it leaves behind.
+unfoldable pub glider_tokens : List Token
+glider_tokens =
+    Separator 1 ∷ X 15281 ∷ Cut ∷ X 20691 ∷ Separator 2 ∷ X 15278 ∷ Cut ∷ X 20696 ∷ Cut ∷ Cut ∷ X 15267 ∷
+    Cut ∷ X 20719 ∷ Separator 2 ∷ X 15222 ∷ Cut ∷ X 20808 ∷ Cut ∷ Cut ∷ X 15043 ∷ Cut ∷ X 21168 ∷
+    Separator 0 ∷ X 14324 ∷ Cut ∷ X 22605 ∷ Separator 1 ∷ X 11449 ∷ Cut ∷ X 28350 ∷ Cut ∷ X 1 ∷ Cut ∷
+    X 7711 ∷ Cut ∷ []
+
+-- the glider, before its group of words x
+abbrev pub glider_word : List Sym → List Sym
+glider_word l = tokens_left 0 [] glider_tokens l
+
+-- what it leaves behind
+unfoldable pub glider_block : List ℕ
+glider_block = 6153 ∷ 3077 ∷ 601 ∷ 61653 ∷ 144285 ∷ []
+
+-- the numbers of its period: how many visits, by how much its group falls; and the gap behind it
+abbrev pub glider_visits : ℕ
+glider_visits = 215779
+
+abbrev pub glider_fall : ℕ
+glider_fall = 107892
+
+abbrev pub glider_gap : ℕ
+glider_gap = 144243
+
+-- what is tested when the check begins
+abbrev pub GliderGlides : Type 0
+GliderGlides = Glides glider_word glider_gap glider_visits glider_fall glider_block
+
+-- what stands behind its tokens after a period, the gap and the block
+unfoldable pub glider_end : List Token
+glider_end =
+    Y 0 ∷ Cut ∷ Cut ∷ X 144243 ∷ Cut ∷ X 6153 ∷ Cut ∷ X 3077 ∷ Cut ∷ X 601 ∷ Cut ∷ X 61653 ∷ Cut ∷ X 144285 ∷ []
+
 -- The main run, from return to return: nothing stands on the right of the head.
-use Rattle.std.specs.Prelude.{◌≡◌, ℕ, ◌%◌, ◌≤◌, List, [], length, Some}
-use Rattle.machine_text.specs.declared.transition.Sym.{Sym}
-use Rattle.law_turing.specs.Run.{Config, from}
-use Rattle.law_machines.specs.Zipper.{Zipper, Describes, blank_zipper}
-use Rattle.law_machines.specs.Rules.{Comes, Goes}
-use Rattle.kind_named.specs.inside.Words.{machine, leftward}
-use Rattle.kind_named.specs.inside.Visits.{Visits}
-use Rattle.kind_named.specs.declared.answer.Answer.TheVariants.{A}
-use Rattle.kind_named.specs.declared.beyond.Beyond.{Beyond}
-use Rattle.kind_named.specs.declared.beyond.Beyond.TheVariants.{Blank}
-use Rattle.kind_named.specs.declared.token.Token.{Token}
-use Rattle.kind_named.specs.inside.Glider.{GliderGlides}
-use Rattle.kind_named.specs.inside.Tokens.{tokens_left, RopesBelow}
 
 -- so many visits, all answered by A
 pub record VisitsOften (n : ℕ) (old new : List (List ℕ)) (before after : List Token) : Type 0 where

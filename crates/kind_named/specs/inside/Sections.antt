@@ -1,15 +1,12 @@
 -- What sections mean: words of the left half tape. A list of sections begins with the nearest one.
 use Rattle.std.specs.Prelude.{◌≡◌, ℕ, ◌%◌, ◌<◌, List, [], ◌∷◌, length}
-use Rattle.machine_text.specs.declared.transition.Sym.{Sym}
-use Rattle.kind_named.specs.inside.Words.{xs_left, c_left, separator_left, rope_left}
-use Rattle.kind_named.specs.inside.Arena.{groups_at, RopesAdded}
-use Rattle.kind_named.specs.inside.Visits.{Visits}
-use Rattle.kind_named.specs.declared.answer.Answer.{Answer}
-use Rattle.kind_named.specs.declared.answer.Answer.TheVariants.{A}
-use Rattle.kind_named.specs.declared.token.Token.{Token}
-use Rattle.kind_named.specs.declared.section.Section.{Section}
-use Rattle.kind_named.specs.declared.section.Section.TheVariants.{Group, Cut, Rope, Separator}
-use Rattle.kind_named.specs.inside.Tokens.{tokens_left, RopesBelow}
+use Rattle.machine_text.specs.declared.table.Sym.{Sym}
+use Rattle.kind_named.specs.inside.Tokens.{xs_left, c_left, separator_left, rope_left, groups_at, RopesAdded, Visits, tokens_left, RopesBelow}
+use Rattle.kind_named.specs.declared.visit.Answer.{Answer}
+use Rattle.kind_named.specs.declared.visit.Answer.TheVariants.{A}
+use Rattle.kind_named.specs.declared.tokens.Token.{Token}
+use Rattle.kind_named.specs.declared.jump.Section.{Section}
+use Rattle.kind_named.specs.declared.jump.Section.TheVariants.{Group, Cut, Rope, Separator}
 
 -- the word of a section before a half tape
 abbrev pub section_left : List (List ℕ) → Section → List Sym → List Sym

@@ -1,21 +1,191 @@
+-- Words of half tapes, visits and jumps, and ropes and tokens.
+use Rattle.std.specs.Prelude.{◌≡◌, ℕ, zero, suc, ◌-◌, ◌≤◌, ◌%◌, List, [], ◌∷◌, ◌+◌, ◌/◌, ◌++◌, ◌<◌, length, get_or, true, Result, OnOk}
+use Rattle.machine_text.specs.declared.table.Sym.{Sym}
+use Rattle.machine_text.specs.declared.table.Sym.TheVariants.{Zero, One}
+use Rattle.machine_text.specs.Terms.{entry_of}
+use Rattle.law_turing.specs.Terms.{Machine}
+use Rattle.law_machines.specs.Terms.{Zipper, AtLeft, AtRight, Comes}
+use Rattle.kind_named.specs.Kind.{skelet1}
+use Rattle.kind_named.specs.declared.visit.Answer.{Answer}
+use Rattle.kind_named.specs.declared.visit.Answer.TheVariants.{A, C}
+use Rattle.kind_named.specs.declared.ropes.Node.{Node}
+use Rattle.kind_named.specs.declared.ropes.Node.TheVariants.{Group, Joined, Repeated}
+use Rattle.kind_named.specs.declared.ropes.Piece.{Piece}
+use Rattle.kind_named.specs.declared.ropes.Opened.{Opened}
+use Rattle.kind_named.specs.declared.ropes.Opened.TheVariants as opened
+use Rattle.kind_named.specs.declared.tokens.Heading.{Heading}
+use Rattle.kind_named.specs.declared.tokens.Heading.TheVariants.{Left, Right}
+use Rattle.kind_named.specs.declared.tokens.Beyond.{Beyond}
+use Rattle.kind_named.specs.declared.tokens.Beyond.TheVariants.{Blank}
+use Rattle.kind_named.specs.declared.run.GivenUp.{GivenUp}
+use Rattle.kind_named.specs.declared.tokens.Token.{Token}
+use Rattle.kind_named.specs.declared.tokens.Token.TheVariants.{X, Y, Cut, Separator, Rope, Wound}
+
+-- The words that half tapes of Skelet 1 are made of. A half tape is the list of its cells from the head outwards, so a word
+-- on the left is written backwards.
+abbrev pub machine : Machine
+machine = entry_of skelet1
+
+-- an x exchanges A and C
+abbrev pub other_answer : Answer → Answer
+other_answer A = C
+other_answer C = A
+
+abbrev pub state_number : Answer → ℕ
+state_number A = 0
+state_number C = 2
+
+-- the state after so many words x
+unfoldable pub turned : Answer → ℕ → Answer
+turned a zero = a
+turned a (suc n) = turned (other_answer a) n
+
+-- The head between two half tapes: it goes left in D, with 11 behind it (L << R), or right in A or C (L A> R, L C> R).
+abbrev pub leftward : List Sym → List Sym → Zipper
+leftward l r = AtLeft l 3 (One ∷ One ∷ r)
+
+abbrev pub rightward : Answer → List Sym → List Sym → Zipper
+rightward a l r = AtRight l (state_number a) r
+
+-- on the left: the word x, 101, so many times; the word c, 10; the separators 1, 100, 11 and 1010
+unfoldable pub xs_left : ℕ → List Sym → List Sym
+xs_left zero l = l
+xs_left (suc n) l = One ∷ Zero ∷ One ∷ xs_left n l
+
+abbrev pub c_left : List Sym → List Sym
+c_left l = Zero ∷ One ∷ l
+
+abbrev pub separator_left : ℕ → List Sym → List Sym
+separator_left zero l = One ∷ l
+separator_left (suc zero) l = Zero ∷ Zero ∷ One ∷ l
+separator_left (suc (suc zero)) l = One ∷ One ∷ l
+separator_left (suc (suc (suc d))) l = c_left (c_left l)
+
+-- on the right: x, 011, so many times; c, 01
+unfoldable pub xs_right : ℕ → List Sym → List Sym
+xs_right zero r = r
+xs_right (suc n) r = Zero ∷ One ∷ One ∷ xs_right n r
+
+abbrev pub c_right : List Sym → List Sym
+c_right r = Zero ∷ One ∷ r
+
+-- a rope: c x^g for each of a list of numbers, in the order of the tape
+unfoldable pub rope_left : List ℕ → List Sym → List Sym
+rope_left [] l = l
+rope_left (g ∷ gs) l = rope_left gs (xs_left g (c_left l))
+
+unfoldable pub rope_right : List ℕ → List Sym → List Sym
+rope_right [] r = r
+rope_right (g ∷ gs) r = c_right (xs_right g (rope_right gs r))
+
+-- a rope that was read in C: 100 x c x^(g - 2) for each
+unfoldable pub wound_left : List ℕ → List Sym → List Sym
+wound_left [] l = l
+wound_left (g ∷ gs) l = wound_left gs (xs_left (g - 2) (c_left (xs_left 1 (separator_left 1 l))))
+
+-- each number is odd; each is 3 or more
+abbrev pub AreOdd : List ℕ → Type 0
+AreOdd [] = Unit {0}
+AreOdd (g ∷ gs) = (g % 2 ≡ 1) × AreOdd gs
+
+abbrev pub AreLong : List ℕ → Type 0
+AreLong [] = Unit {0}
+AreLong (g ∷ gs) = (3 ≤ g) × AreLong gs
+
+-- Visits: the head comes into a half tape on the left, and goes back to the right in state A or C, its answer, whatever
+-- is on the right.
+
+-- one visit of l, which leaves k
+pub record AnswersBy (a : Answer) (l k : List Sym) : Type 0 where
+  pub run : (r : List Sym) → Comes machine (leftward l r) (rightward a k r)
+
+-- so many visits one after another, each with the same answer
+abbrev pub VisitChain : Answer → ℕ → List Sym → List Sym → Type 0
+VisitChain a zero l k = l ≡ k
+VisitChain a (suc n) l k = (j : List Sym) × AnswersBy a l j × VisitChain a n j k
+
+pub record Visits (a : Answer) (n : ℕ) (l k : List Sym) : Type 0 where
+  pub chain : VisitChain a n l k
+
+-- Jumps: what many visits make of a separator, and of the glider.
+
+-- the answer of a separator by its digit
+abbrev pub separator_answer : ℕ → Answer
+separator_answer zero = A
+separator_answer (suc d) = other_answer (separator_answer d)
+
+-- what v visits of a separator of the digit d take of the words x before it: one for each even number from d on
+abbrev pub paid : ℕ → ℕ → ℕ
+paid d v = (d + v + 1) / 2 - (d + 1) / 2
+
+-- a rope so many times
+abbrev pub rope_times : ℕ → List ℕ → List ℕ
+rope_times zero gs = []
+rope_times (suc k) gs = gs ++ rope_times k gs
+
+-- The glider: words g, then x^b, cc and x^gap. In a period of vp visits b falls by bp, and a rope j comes behind it, whatever
+-- is beyond it, which is l before and u behind.
+abbrev pub glider_at : (List Sym → List Sym) → ℕ → ℕ → List Sym → List Sym
+glider_at g gap b l = xs_left gap (separator_left 3 (xs_left b (g l)))
+
+pub record Glides (g : List Sym → List Sym) (gap vp bp : ℕ) (j : List ℕ) : Type 0 where
+  pub even : bp % 2 ≡ 0
+  pub odd : AreOdd j
+  pub run : (b : ℕ) → b % 2 ≡ 0 → (l : List Sym) → (u : List Sym) ×
+      Visits A vp (glider_at g gap (bp + b) l) (rope_left j (glider_at g gap b u))
+
+-- What ropes mean: for each, how many words x its groups have. A rope is made of earlier ones, and is never changed.
+
+-- the groups of the rope of a number
+abbrev pub groups_at : List (List ℕ) → ℕ → List ℕ
+groups_at ropes i = get_or ropes i []
+
+-- the groups of a rope by how it is made
+abbrev pub node_groups : List (List ℕ) → Node → List ℕ
+node_groups ropes (Group g) = g ∷ []
+node_groups ropes (Joined a b) = groups_at ropes a ++ groups_at ropes b
+node_groups ropes (Repeated a n) = rope_times n (groups_at ropes a)
+
+-- all ropes, where some are there already
+unfoldable pub ropes_of : List (List ℕ) → List Piece → List (List ℕ)
+ropes_of ropes [] = ropes
+ropes_of ropes (p ∷ ps) = ropes_of (ropes ++ node_groups ropes p.node ∷ []) ps
+
+-- ropes were added, and the others are as they were
+pub record RopesAdded (old new : List (List ℕ)) : Type 0 where
+  pub keeps : (i : ℕ) → i < length old → groups_at new i ≡ groups_at old i
+  pub grows : length old ≤ length new
+
+-- a rope is made of ropes below n
+abbrev pub RefersBelow : ℕ → Node → Type 0
+RefersBelow n (Group g) = Unit {0}
+RefersBelow n (Joined a b) = (a < n) × (b < n)
+RefersBelow n (Repeated a k) = a < n
+
+-- what may be added
+pub record IsPiece (ropes : List (List ℕ)) (p : Piece) : Type 0 where
+  pub refers : RefersBelow (length ropes) p.node
+  pub odd : AreOdd (node_groups ropes p.node)
+  pub long : p.is_long ≡ true → AreLong (node_groups ropes p.node)
+
+-- the rope of a number is what it is made of
+pub record HasGroups (ropes : List (List ℕ)) (i : ℕ) (p : Piece) : Type 0 where
+  pub refers : RefersBelow i p.node
+  pub is : groups_at ropes i ≡ node_groups ropes p.node
+  pub long : p.is_long ≡ true → AreLong (groups_at ropes i)
+
+pub record IsArena (ps : List Piece) : Type 0 where
+  pub means : (i : ℕ) (p : Piece) → i < length ps → p ≡ get_or ps i p → HasGroups (ropes_of [] ps) i p
+  pub odd : (i : ℕ) → AreOdd (groups_at (ropes_of [] ps) i)
+
+-- the two parts of a rope, or its one group
+abbrev pub OpensTo : List (List ℕ) → List ℕ → Opened → Type 0
+OpensTo ropes gs (opened.Group g) = gs ≡ g ∷ []
+OpensTo ropes gs (opened.Two a b) = (a < length ropes) × (b < length ropes) ×
+    (gs ≡ groups_at ropes a ++ groups_at ropes b)
+
 -- What tokens mean: words of the left half tape and of the right one. A list of tokens ends with the one nearest to the
 -- head, so it is pushed to and popped from.
-use Rattle.std.specs.Prelude.{◌≡◌, ℕ, ◌+◌, ◌%◌, ◌<◌, List, [], ◌∷◌, length, Result, OnOk}
-use Rattle.machine_text.specs.declared.transition.Sym.{Sym}
-use Rattle.law_machines.specs.Zipper.{Zipper}
-use Rattle.law_machines.specs.Rules.{Comes}
-use Rattle.kind_named.specs.inside.Words.{machine, leftward, rightward, xs_left, c_left, separator_left, xs_right, c_right, rope_left, rope_right, wound_left}
-use Rattle.kind_named.specs.inside.Visits.{AnswersBy, Visits}
-use Rattle.kind_named.specs.inside.Arena.{groups_at, RopesAdded}
-use Rattle.kind_named.specs.declared.answer.Answer.{Answer}
-use Rattle.kind_named.specs.declared.answer.Answer.TheVariants.{A, C}
-use Rattle.kind_named.specs.declared.heading.Heading.{Heading}
-use Rattle.kind_named.specs.declared.heading.Heading.TheVariants.{Left, Right}
-use Rattle.kind_named.specs.declared.beyond.Beyond.{Beyond}
-use Rattle.kind_named.specs.declared.beyond.Beyond.TheVariants.{Blank}
-use Rattle.kind_named.specs.declared.given_up.GivenUp.{GivenUp}
-use Rattle.kind_named.specs.declared.token.Token.{Token}
-use Rattle.kind_named.specs.declared.token.Token.TheVariants.{X, Y, Cut, Separator, Rope, Wound}
 
 -- the word of a token before a half tape; b is how many words x more a token Y has
 abbrev pub token_left : ℕ → List (List ℕ) → Token → List Sym → List Sym

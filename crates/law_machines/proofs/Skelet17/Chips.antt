@@ -5,9 +5,9 @@
 -- That w stays within its bounds follows from the sum of every second equation of the balance: each has the number two
 -- places further on, so the numbers fall out of the sum (level_law).
 use Rattle.std.proofs.Common.{◌≡◌, ℕ, ◌+◌, ◌*◌, ◌≤◌, Bool, true, false, List, [], ◌∷◌, ◌++◌, ◌⊎◌, inl, inr, ap, subst, refl, arith}
-use Rattle.machine_text.specs.declared.transition.Sym.{Sym}
-use Rattle.machine_text.specs.declared.transition.Sym.TheVariants.{Zero, One}
-use Rattle.law_machines.proofs.Digits.{val, full, val_below}
+use Rattle.machine_text.specs.declared.table.Sym.{Sym}
+use Rattle.machine_text.specs.declared.table.Sym.TheVariants.{Zero, One}
+use Rattle.law_machines.proofs.DigitLists.{val, full, val_below}
 use Rattle.law_machines.proofs.Skelet17.Gray.{inc, dec, ones, inc_val, inc_full, dec_val, dec_full, ones_val, ones_full, same_digits, grays, wide, wide_val, wide_full, bit_top}
 use Rattle.law_machines.proofs.Skelet17.Phases.{half_power}
 use Rattle.law_machines.proofs.Skelet17.Rounds.{plus, Balance, balanced, balance, Zeros, no_more, zero_more}

@@ -3,9 +3,9 @@
 -- numbers of odd multiples of 1, 2, 4, .. from 1 to v, and their parities are the digits of the Gray code of v: from v
 -- to v + 1 just one of them grows, by one.
 use Rattle.std.proofs.Common.{◌≡◌, ℕ, suc, ◌+◌, ◌*◌, ◌≤◌, List, [], ◌∷◌, ◌++◌, ap, refl, arith}
-use Rattle.machine_text.specs.declared.transition.Sym.{Sym}
-use Rattle.machine_text.specs.declared.transition.Sym.TheVariants.{Zero, One}
-use Rattle.law_machines.proofs.Digits.{bit, val, full, full_pos}
+use Rattle.machine_text.specs.declared.table.Sym.{Sym}
+use Rattle.machine_text.specs.declared.table.Sym.TheVariants.{Zero, One}
+use Rattle.law_machines.proofs.DigitLists.{bit, val, full, full_pos}
 
 abbrev pub inc : List Sym → List Sym
 inc [] = []

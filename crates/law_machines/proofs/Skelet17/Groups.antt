@@ -20,18 +20,13 @@
 --     tick_even   x (10)^(2 j + 2) B> $               -> y 10 1 (10)^(2 j + 1) B> $      with a visit from x to y
 --     tick_drop   x B> $                              -> y 10 B> $                       with a visit from x to y
 use Rattle.std.proofs.Common.{◌≡◌, ℕ, zero, suc, ◌+◌, ◌-◌, ◌*◌, ◌≤◌, List, [], ◌∷◌, ◌++◌, sym, ap, subst, refl, arith}
-use Rattle.machine_text.specs.declared.transition.Sym.{Sym}
-use Rattle.machine_text.specs.declared.transition.Sym.TheVariants.{Zero, One}
-use Rattle.machine_text.specs.Packed.{Packed, entry_of}
-use Rattle.law_turing.specs.Machine.{Machine}
-use Rattle.law_machines.specs.Zipper.{Zipper, AtLeft, AtRight, steps}
-use Rattle.law_machines.specs.Rules.{Comes, Goes}
-use Rattle.law_machines.proofs.RuleLaws.{run, run⁺, stay, same, ◌⨾◌, ◌⁺⨾◌}
-use Rattle.law_machines.proofs.Words.{repeat_last, repeat_swap, sweep_right}
-use Rattle.law_machines.proofs.Blanks.{same_blank, same_right}
-use Rattle.law_machines.proofs.Cells.{io, oi}
-use Rattle.law_machines.specs.Words.{repeat, SameCells}
-use Rattle.law_machines.proofs.Digits.{twice, twice_is}
+use Rattle.machine_text.specs.declared.table.Sym.{Sym}
+use Rattle.machine_text.specs.declared.table.Sym.TheVariants.{Zero, One}
+use Rattle.machine_text.specs.Terms.{Packed, entry_of}
+use Rattle.law_turing.specs.Terms.{Machine}
+use Rattle.law_machines.specs.Zipper.{Zipper, AtLeft, AtRight, steps, Comes, Goes, repeat, SameCells}
+use Rattle.law_machines.proofs.RuleLaws.{run, run⁺, stay, same, ◌⨾◌, ◌⁺⨾◌, repeat_last, repeat_swap, sweep_right, same_blank, same_right}
+use Rattle.law_machines.proofs.DigitLists.{io, oi, twice, twice_is}
 
 -- the table as it is stored
 abbrev pub skelet17 : Packed

@@ -22,16 +22,13 @@
 -- That a level ends isn't needed. The first list, 4; 2, 1, 0, 0, is that of the level 3 with the numbers 4, 2, 1 and
 -- w = 3, and the chip on the third number; the run comes to it in 239 steps.
 use Rattle.std.proofs.Common.{◌≡◌, ℕ, suc, ◌+◌, ◌*◌, ◌≤◌, List, [], ◌∷◌, ◌++◌, inl, inr, ap, subst, refl, arith}
-use Rattle.machine_text.specs.declared.transition.Sym.{Sym}
-use Rattle.machine_text.specs.declared.transition.Sym.TheVariants.{Zero, One}
-use Rattle.machine_text.specs.Packed.{entry_of}
-use Rattle.law_turing.specs.Halting.{Never}
-use Rattle.law_machines.specs.Zipper.{Zipper, blank_zipper, steps}
-use Rattle.law_machines.specs.Rules.{Goes}
+use Rattle.machine_text.specs.declared.table.Sym.{Sym}
+use Rattle.machine_text.specs.declared.table.Sym.TheVariants.{Zero, One}
+use Rattle.machine_text.specs.Terms.{entry_of}
+use Rattle.law_turing.specs.Terms.{Never}
+use Rattle.law_machines.specs.Zipper.{Zipper, blank_zipper, steps, Goes, repeat}
 use Rattle.law_machines.proofs.RuleLaws.{run, never_by_rules}
-use Rattle.law_machines.specs.Words.{repeat}
-use Rattle.law_machines.proofs.Cells.{oi, ii}
-use Rattle.law_machines.proofs.Digits.{twice, bit, val, full, full_pos, val_below}
+use Rattle.law_machines.proofs.DigitLists.{oi, ii, twice, bit, val, full, full_pos, val_below}
 use Rattle.law_machines.proofs.Skelet17.Gray.{inc, dec, inc_val, inc_full, dec_val, dec_full, wide, wide_val, wide_full, bit_top, pad_val, pad_full}
 use Rattle.law_machines.proofs.Skelet17.Groups.{skelet17, m, tail, groups, Visits, over_even, over_top, odd_half, some_half, tick_drop}
 use Rattle.law_machines.proofs.Skelet17.Phases.{Up, up_none, up_more, up_ticks}

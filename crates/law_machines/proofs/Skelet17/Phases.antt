@@ -6,13 +6,11 @@
 -- The even numbers that C goes over must not be zero. Numbers only grow, so it is enough that they were not so at the
 -- beginning.
 use Rattle.std.proofs.Common.{◌≡◌, ℕ, zero, suc, ◌+◌, ◌*◌, ◌≤◌, List, [], ◌∷◌, ap, subst, arith}
-use Rattle.machine_text.specs.declared.transition.Sym.{Sym}
-use Rattle.machine_text.specs.declared.transition.Sym.TheVariants.{Zero, One}
-use Rattle.law_machines.specs.Rules.{Comes, Goes}
+use Rattle.machine_text.specs.declared.table.Sym.{Sym}
+use Rattle.machine_text.specs.declared.table.Sym.TheVariants.{Zero, One}
+use Rattle.law_machines.specs.Zipper.{Comes, Goes, repeat}
 use Rattle.law_machines.proofs.RuleLaws.{same, ◌⨾◌}
-use Rattle.law_machines.specs.Words.{repeat}
-use Rattle.law_machines.proofs.Cells.{oi}
-use Rattle.law_machines.proofs.Digits.{twice, bit, val, full, val_below}
+use Rattle.law_machines.proofs.DigitLists.{oi, twice, bit, val, full, val_below}
 use Rattle.law_machines.proofs.Skelet17.Gray.{inc, dec, ones, inc_val, inc_full, dec_val, dec_full, ones_val, same_digits}
 use Rattle.law_machines.proofs.Skelet17.Groups.{m, tail, groups, Visits, over_odd, over_even, over_end, tick_drop, at_odd, at_even, odd_half, even_half, some_half}
 

@@ -3,14 +3,11 @@
 -- place. Then it goes down from y to zero, where all numbers are even and the list grows by two; and then down from
 -- ones alone, until the first group is used up. What is left is such a list again, for the numbers that Balance tells.
 use Rattle.std.proofs.Common.{◌≡◌, ℕ, zero, suc, ◌+◌, ◌-◌, ◌*◌, ◌≤◌, List, [], ◌∷◌, ◌++◌, ap, subst, refl, arith}
-use Rattle.machine_text.specs.declared.transition.Sym.{Sym}
-use Rattle.machine_text.specs.declared.transition.Sym.TheVariants.{Zero, One}
-use Rattle.law_machines.specs.Zipper.{Zipper, AtRight}
-use Rattle.law_machines.specs.Rules.{Comes, Goes}
+use Rattle.machine_text.specs.declared.table.Sym.{Sym}
+use Rattle.machine_text.specs.declared.table.Sym.TheVariants.{Zero, One}
+use Rattle.law_machines.specs.Zipper.{Zipper, AtRight, Comes, Goes, repeat}
 use Rattle.law_machines.proofs.RuleLaws.{same, ◌⨾◌, ◌⨾⁺◌, ◌⁺⨾◌, weakened}
-use Rattle.law_machines.specs.Words.{repeat}
-use Rattle.law_machines.proofs.Cells.{oi, ii}
-use Rattle.law_machines.proofs.Digits.{twice, twice_is, bit, val, full, full_pos, val_below}
+use Rattle.law_machines.proofs.DigitLists.{oi, ii, twice, twice_is, bit, val, full, full_pos, val_below}
 use Rattle.law_machines.proofs.Skelet17.Gray.{inc, dec, ones, inc_val, inc_full, dec_val, dec_full, ones_val, ones_full, same_digits, grays, wide, zeros, wide_val, wide_full, zeros_val, zeros_full, bit_top}
 use Rattle.law_machines.proofs.Skelet17.Groups.{m, tail, groups, tick_drop, at_even}
 use Rattle.law_machines.proofs.Skelet17.Phases.{Up, up_none, up_more, slack, Down, down_none, down_more, up_ticks, up_drop, down_ticks, down_drop, half_power, raise, over_visit}

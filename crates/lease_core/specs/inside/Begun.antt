@@ -1,16 +1,14 @@
 -- For the code: what a start gives before the coordinator is made of it.
 use Rattle.std.specs.Prelude.{◌≡◌, ℕ, List, Option, Some, None, Result, Ok, Err, false}
-use Rattle.machine_text.specs.Packed.{empty_table}
-use Rattle.ledger.specs.Contents.{IsBoard}
-use Rattle.ledger.specs.LedgerText.{LoadGives}
-use Rattle.ledger.specs.Reading.{IsRead, IsAllRead, IsBrokenOff}
-use Rattle.ledger.specs.declared.left.Left.{Left}
+use Rattle.machine_text.specs.Terms.{empty_table}
+use Rattle.ledger.specs.Terms.{IsBoard, LoadGives, IsRead, IsAllRead, IsBrokenOff}
+use Rattle.ledger.specs.declared.loading.Left.{Left}
 use Rattle.wire.specs.declared.node.Out.{Out}
-use Rattle.leases.specs.Leases.{Leased, no_leases}
+use Rattle.leases.specs.Terms.{Leased, no_leases}
 use Rattle.lease_core.specs.CoordinatorRules.{Coordinating}
 use Rattle.lease_core.specs.Starts.{Begins, CantStart, not_started}
-use Rattle.lease_core.specs.declared.start_fault.StartFault.{StartFault}
-use Rattle.lease_core.specs.declared.start_fault.StartFault.TheVariants.{BadHeader, WrongRoot, LedgerFault, NoMemory}
+use Rattle.lease_core.specs.declared.starting.StartFault.{StartFault}
+use Rattle.lease_core.specs.declared.starting.StartFault.TheVariants.{BadHeader, WrongRoot, LedgerFault, NoMemory}
 
 abbrev pub BeginsSo : ℕ → List ℕ → Result (Leased × Out) StartFault → Type 0
 BeginsSo n text (Ok begun) = (begun.0.leases ≡ no_leases)

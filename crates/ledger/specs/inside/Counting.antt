@@ -1,12 +1,17 @@
--- For the code: counts along lists of records.
-use Rattle.std.specs.Prelude.{◌≡◌, ℕ, ◌+◌, ◌-◌, ◌<◌, ◌^◌, Bool, true, false, nat_lt, nat_eq, if◌then◌else◌, List, [], Option, Some, None, filter, filter_map, length}
+-- For the code: counts along lists of records, and the open tables.
+use Rattle.std.specs.Prelude.{◌≡◌, ℕ, ◌+◌, ◌-◌, ◌<◌, ◌^◌, Bool, true, false, nat_lt, nat_eq, if◌then◌else◌, List, [], Option, Some, None, filter, filter_map, length, ◌≢◌, ◌↔◌, ◌⊎◌, not, All, Contains, slice_get}
 use Rattle.std.specs.Option.{is_none}
-use Rattle.machine_text.specs.Packed.{Packed}
+use Rattle.std.specs.BTreeMap.{BTreeMap, ContainsKey}
+use Rattle.machine_text.specs.Terms.{Packed, table_cmp}
 use Rattle.kind_evidence.specs.declared.verdicts.Ending.{Ending}
 use Rattle.kind_evidence.specs.declared.verdicts.Ending.TheVariants.{Halts, Never}
-use Rattle.cert.specs.Claim.{Recorded, ending_by, score_by}
+use Rattle.cert.specs.Terms.{Recorded, ending_by, score_by}
 use Rattle.ledger.specs.Tally.{IsGreatestCount, IsGreatestOnes}
 use Rattle.ledger.specs.declared.counts.Counts.{Counts}
+use Rattle.law_tree.specs.Terms.{IsOpen, IsChildTable}
+use Rattle.ledger.specs.Records.{claim_in, mark_in, Contents}
+
+-- For the code: counts along lists of records.
 
 -- a record without a verdict
 abbrev pub is_undecided : Recorded → Bool
@@ -122,3 +127,44 @@ without_holdout c = record {
   best = c.best;
   ones = c.ones;
 }
+
+-- For the code: maps of tables, and which a board's open ones are.
+
+-- a table of the list that has no record and isn't the parent
+pub record HasUnrecorded (found : List Packed) (rs : List Recorded) (parent t : Packed) : Type 0 where
+  pub listed : Contains found t
+  pub unrecorded : claim_in rs t ≡ None
+  pub other : t ≢ parent
+
+-- the entries of the tables that weren't opened by the record at this place
+abbrev pub others : ℕ → List (Packed × ℕ) → List (Packed × ℕ)
+others place es = filter (λ e. not (nat_eq e.1 place)) es
+
+-- the place that no record has, in four bytes
+abbrev pub no_place : ℕ
+no_place = 4294967295
+
+-- the place of the record that opened a table: that of its parent's, which halts; what opened the root has none
+abbrev pub IsOpener : Packed → List Recorded → Packed → ℕ → Type 0
+IsOpener root rs t place = ((t ≡ root) × (place ≡ no_place))
+    ⊎ ((r : Recorded) × (slice_get rs place ≡ Some r) × (is_halting r ≡ true) × IsChildTable r.table t)
+
+-- a map of tables is that of the open ones, each with the place of what opened it
+pub record IsOpenMapOf (tables : BTreeMap Packed ℕ) (root : Packed) (rs : List Recorded) : Type 0 where
+  pub exact : (t : Packed) → ContainsKey table_cmp tables t ↔ IsOpen root (mark_in rs) t
+  pub openers : All (λ e. IsOpener root rs e.0 e.1) tables.entries
+
+abbrev pub IsOpenMap : BTreeMap Packed ℕ → Contents → Type 0
+IsOpenMap tables b = IsOpenMapOf tables b.root b.records
+
+-- a child of the record's table, by its halting, that has no record itself
+pub record IsNewChild (rs : List Recorded) (r : Recorded) (t : Packed) : Type 0 where
+  pub count : ℕ
+  pub halts : ending_by r.claim ≡ Some (Halts count)
+  pub child : IsChildTable r.table t
+  pub unrecorded : claim_in rs t ≡ None
+  pub other : t ≢ r.table
+
+-- what the record at a place opened are children of this table
+abbrev pub AreChildrenAt : ℕ → Packed → List (Packed × ℕ) → Type 0
+AreChildrenAt place parent es = All (λ e. e.1 ≡ place → IsChildTable parent e.0) es

@@ -1,12 +1,34 @@
--- For the code: what is stored of a record under its table, and how it is kept in few bytes.
-use Rattle.std.specs.Prelude.{ℕ, Option, Some, None}
-use Rattle.machine_text.specs.declared.transition.Pair.{Pair}
+-- For the code: how a record is kept in few bytes.
+use Rattle.std.proofs.Common.{zero, suc, refl, arith}
+use Rattle.std.specs.Prelude.{◌≡◌, ℕ, ◌+◌, ◌<◌, ◌^◌, Option, Some, None, IfSome}
+use Rattle.machine_text.specs.declared.table.Pair.{Pair}
 use Rattle.cert.specs.declared.certificate.OwnedCertificate.{OwnedCertificate}
 use Rattle.cert.specs.declared.certificate.OwnedCertificate.TheVariants.{Halts as OwnedHalts, Cycle as OwnedCycle, Translated as OwnedTranslated, Backward as OwnedBackward, Undecided as OwnedUndecided}
 use Rattle.run.specs.declared.reach.Reach.TheVariants.{Early}
-use Rattle.ledger.specs.declared.kept.Kept.{Kept}
-use Rattle.ledger.specs.declared.kept.Kept.TheVariants.{Halts, Cycle, Translated, Backward, Undecided, Boxed}
+use Rattle.ledger.specs.declared.stored_record.Kept.{Kept}
+use Rattle.ledger.specs.declared.stored_record.Kept.TheVariants.{Halts, Cycle, Translated, Backward, Undecided, Boxed}
 use Rattle.ledger.specs.declared.tree_count.TreeCount.{TreeCount}
+
+-- For the code: numbers that may be missing, in eight bytes.
+
+-- 0 is none, and every other the number that is one less
+abbrev pub number_of : ℕ → Option ℕ
+number_of zero = None
+number_of (suc n) = Some n
+
+abbrev pub kept_number : Option ℕ → ℕ
+kept_number None = 0
+kept_number (Some n) = n + 1
+
+-- it has room in eight bytes
+abbrev pub IsSmall : Option ℕ → Type 0
+IsSmall o = IfSome o (λ n. n + 1 < 2 ^ 64)
+
+pub kept_back : (n : ℕ) → kept_number (number_of n) ≡ n
+kept_back zero = refl
+kept_back (suc n) = omega arith
+
+-- For the code: what is stored of a record under its table, and how it is kept in few bytes.
 
 -- a certificate, the pair on which its table halts, the place of the record of the table's parent, and the numbers of
 -- the table's tree

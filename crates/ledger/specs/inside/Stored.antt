@@ -1,9 +1,7 @@
 -- For the code: how a record is stored, beside it the pair on which its table halts, where it says that it does.
 use Rattle.std.specs.Prelude.{List, map}
-use Rattle.machine_text.specs.Packed.{Packed}
-use Rattle.cert.specs.Claim.{Recorded, ending_by}
-use Rattle.cert.specs.Certified.{IsPairOf}
-use Rattle.cert.specs.Kinds.{owned_claim}
+use Rattle.machine_text.specs.Terms.{Packed}
+use Rattle.cert.specs.Terms.{Recorded, ending_by, IsPairOf, owned_claim}
 use Rattle.ledger.specs.declared.stored_record.StoredRecord.{StoredRecord}
 
 abbrev pub entry_recorded : Packed × StoredRecord → Recorded

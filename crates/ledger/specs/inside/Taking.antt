@@ -1,12 +1,36 @@
--- For the code: a line of a ledger's body that ends.
-use Rattle.std.specs.Prelude.{◌≡◌, ℕ, ◌+◌, ◌≤◌, min, List, [], ◌∷◌, ◌++◌, length, take, Option, Some, None}
-use Rattle.machine_text.specs.Packed.{Packed}
-use Rattle.ledger.specs.LedgerText.{HasHeader, LineGives}
+-- For the code: a header, and a line of a ledger's body that ends.
+use Rattle.std.specs.Prelude.{◌≡◌, ℕ, List, Option, Some, None, Result, Ok, Err, ◌+◌, ◌≤◌, min, [], ◌∷◌, ◌++◌, length, take}
+use Rattle.std.specs.Borrow.{Bor}
+use Rattle.machine_text.specs.Terms.{Packed, entry_of}
+use Rattle.law_tree.specs.Terms.{InOrder}
+use Rattle.ledger.specs.LedgerText.{IsTornHeader, HasHeader, HasNoHeader, LineGives}
+use Rattle.ledger.specs.declared.faults.LoadFault.{LoadFault}
+use Rattle.ledger.specs.declared.faults.LoadFault.TheVariants.{BadHeader, WrongRoot, NoMemory}
 use Rattle.ledger.specs.Loading.{IsBodyOf, IsStageOf}
-use Rattle.ledger.specs.declared.left.Left.TheVariants.{From}
-use Rattle.ledger.specs.declared.left.Unkept.{Unkept}
+use Rattle.ledger.specs.declared.loading.Left.TheVariants.{From}
+use Rattle.ledger.specs.declared.loading.Unkept.{Unkept}
 use Rattle.ledger.specs.declared.body.Body.{Body}
-use Rattle.ledger.specs.declared.stage.Stage.{Stage}
+use Rattle.ledger.specs.declared.loading.Stage.{Stage}
+
+-- For the code: the header of a ledger's text.
+
+-- which root a text names, and what stands behind its header
+abbrev pub HeaderGives : List ℕ → Result (Option (Packed × Bor (List ℕ))) LoadFault → Type 0
+HeaderGives text (Ok None) = IsTornHeader text
+HeaderGives text (Ok (Some found)) = HasHeader text found.0 found.1.now
+HeaderGives text (Err BadHeader) = HasNoHeader text
+HeaderGives text (Err WrongRoot) = ⊥
+HeaderGives text (Err NoMemory) = ⊥
+
+-- the root, where it names its states in order
+abbrev pub OrderGives : Packed → Result (Option Packed) LoadFault → Type 0
+OrderGives root (Ok None) = ⊥
+OrderGives root (Ok (Some named)) = (named ≡ root) × ((u : ℕ) × InOrder u (entry_of root))
+OrderGives root (Err BadHeader) = ⊥
+OrderGives root (Err WrongRoot) = ((u : ℕ) × InOrder u (entry_of root)) → ⊥
+OrderGives root (Err NoMemory) = ⊥
+
+-- For the code: a line of a ledger's body that ends.
 
 -- how a body goes on behind a line that was taken, or wasn't for a reason; the next line has so many bytes before it
 abbrev pub GoesBehind : Body → Option Unkept → ℕ → Body → Type 0

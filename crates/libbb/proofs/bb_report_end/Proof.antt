@@ -27,8 +27,8 @@ use denote.Triple.Spec.{triple_of}
 use denote.Triple.Walked.{Stays, says, walk_of, stay_dropped, Goes-dropped, ends_at}
 use denote.Triple.Table.{framed}
 use borrow.Table.OneValue.{part_out}
-use Rattle.law_turing.specs.Halting.{IsRado}
-use Rattle.ledger.specs.Sigma.{IsSigma}
+use Rattle.law_turing.specs.Terms.{IsRado}
+use Rattle.ledger.specs.Terms.{IsSigma}
 use Rattle.std.specs.contracts.alloc.Global.{the_row as Heap}
 use Rattle.std.proofs.alloc.Global.TheLaws as heap_laws
 use Rattle.libbb.specs.Pieces.{HasCome, reader_at}

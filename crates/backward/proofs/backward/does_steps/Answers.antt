@@ -1,6 +1,6 @@
 use Rattle.std.proofs.Common.{arith}
 use Rattle.std.proofs.lemmas.Bool.Decides.{nat_tests}
-use Rattle.backward.proofs.Checked.{says_done}
+use Rattle.backward.proofs.PathLaws.{says_done}
 use Rattle.backward.proofs.backward.does_steps.Goals as goal
 
 pub returns : goal.returns

@@ -1,6 +1,6 @@
 use Rattle.std.proofs.Common.{Err, ap}
 use Rattle.std.proofs.lemmas.Result.{err_from_is_err_and}
-use Rattle.cert.proofs.Refusals.{halts_certified, halts_refused}
+use Rattle.cert.proofs.Claims.{halts_certified, halts_refused}
 use Rattle.cert.proofs.judgement.judge_on.Goals as goal
 
 pub returns-in_ok-halted-in-Halts-clause-certified : goal.returns-in_ok-halted-in-Halts-clause-certified

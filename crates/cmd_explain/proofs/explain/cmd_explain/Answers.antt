@@ -1,4 +1,4 @@
-use Rattle.cmd_lines.proofs.Early.{told_saying}
+use Rattle.cmd_lines.proofs.AnsweredPieces.{told_saying}
 use Rattle.cmd_explain.proofs.explain.cmd_explain.Goals as goal
 
 pub returns : goal.returns

@@ -1,5 +1,5 @@
-use Rattle.cmd_lines.proofs.Answering.{early_answered, stream_answered}
-use Rattle.cmd_lines.proofs.Early.{IfErr-passed}
+use Rattle.cmd_lines.proofs.AnsweredLines.{early_answered, stream_answered}
+use Rattle.cmd_lines.proofs.AnsweredPieces.{IfErr-passed}
 use Rattle.cmd_explain.specs.Explained.{SaysExplained}
 use Rattle.cmd_explain.proofs.explain.explain_for.Goals as goal
 

@@ -1,7 +1,7 @@
 use Rattle.std.proofs.Common.{ap, subst, ◌∙◌, IfOk, arith}
-use Rattle.machine_text.specs.Packed.{Packed, entry_of}
-use Rattle.run.specs.RunState.{RunState}
-use Rattle.cmd_explain.specs.Seen.{IsSeen}
+use Rattle.machine_text.specs.Terms.{Packed, entry_of}
+use Rattle.run.specs.Terms.{RunState}
+use Rattle.cmd_explain.specs.Explained.{IsSeen}
 use Rattle.cmd_explain.proofs.Sights.{ran_on, ran_out}
 use Rattle.cmd_explain.proofs.seen.see.Goals as goal
 

@@ -1,6 +1,6 @@
 use Rattle.std.proofs.Common.{subst}
-use Rattle.machine_text.specs.Packed.{Packed, entry_of}
-use Rattle.cmd_explain.specs.Seen.{IsSeen}
+use Rattle.machine_text.specs.Terms.{Packed, entry_of}
+use Rattle.cmd_explain.specs.Explained.{IsSeen}
 use Rattle.cmd_explain.proofs.Sights.{goes_on, ran_out}
 use Rattle.cmd_explain.proofs.seen.see_on.Goals as goal
 

@@ -1,7 +1,6 @@
-use Rattle.cmd_ledgers.proofs.Reports.{on_ok}
-use Rattle.cmd_ledgers.proofs.TreeReports.{tree_report, tells_rado}
-use Rattle.cmd_json.specs.JsonReport.{IsJsonReport, json_text}
-use Rattle.cmd_json.proofs.Appended.{appended}
+use Rattle.cmd_ledgers.proofs.TreeReports.{on_ok, tree_report, tells_rado}
+use Rattle.cmd_json.specs.Forms.{IsJsonReport, json_text}
+use Rattle.cmd_json.proofs.JsonAnswers.{appended}
 use Rattle.cmd_json.proofs.report.report_json.Goals as goal
 
 pub returns-clause-ok : goal.returns-clause-ok

@@ -2,10 +2,10 @@ use Rattle.std.proofs.Common.{◌≡◌, [], ◌∷◌, ◌++◌, List, ℕ, ap,
 use Rattle.std.specs.Vec.Iter.{into_iter_items}
 use Rattle.serde_json.specs.View.{view}
 use Rattle.serde_json.specs.Written.{has_float, compact_text}
-use Rattle.machine_text.specs.Packed.{Packed}
-use Rattle.cmd_ledgers.specs.Report.{status_name}
-use Rattle.cmd_json.specs.JsonReport.{report_value}
-use Rattle.cmd_json.proofs.Floats.{report_has_none}
+use Rattle.machine_text.specs.Terms.{Packed}
+use Rattle.cmd_ledgers.specs.Terms.{status_name}
+use Rattle.cmd_json.specs.Forms.{report_value}
+use Rattle.cmd_json.proofs.JsonAnswers.{report_has_none}
 use Rattle.cmd_json.proofs.report.told_text.Goals as goal
 
 pub returns : goal.returns

@@ -1,8 +1,8 @@
 use Rattle.std.proofs.Common.{refl}
-use Rattle.cmd_json.specs.LineObjects.{SaysTold}
+use Rattle.cmd_json.specs.Objects.{SaysTold}
 use Rattle.cmd_json.specs.declared.told.Explainer.{Explainer}
-use Rattle.cmd_json.proofs.Numbering.{early_numbered, stream_numbered}
-use Rattle.cmd_lines.proofs.Early.{IfErr-passed}
+use Rattle.cmd_json.proofs.JsonAnswers.{early_numbered, stream_numbered}
+use Rattle.cmd_lines.proofs.AnsweredPieces.{IfErr-passed}
 use Rattle.cmd_json.proofs.told.explain_json_for.Goals as goal
 
 pub returns-clause-ok : goal.returns-clause-ok

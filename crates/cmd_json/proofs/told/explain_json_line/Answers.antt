@@ -1,9 +1,9 @@
 use Rattle.std.proofs.Common.{ap, ◌∙◌, option_map, string_bytes}
 use Rattle.serde_json.specs.Written.{has_float}
-use Rattle.cert.specs.Kinds.{read_as}
-use Rattle.cmd_lines.specs.Taken.{lent}
-use Rattle.cmd_json.specs.Found.{found}
-use Rattle.cmd_json.proofs.WholeNumbers.{explain_has_none}
+use Rattle.cert.specs.Terms.{read_as}
+use Rattle.cmd_lines.specs.Terms.{lent}
+use Rattle.cmd_json.specs.Objects.{found}
+use Rattle.cmd_json.proofs.JsonAnswers.{explain_has_none}
 use Rattle.cmd_json.proofs.told.explain_json_line.Goals as goal
 
 pub append_object-requires : goal.append_object-requires

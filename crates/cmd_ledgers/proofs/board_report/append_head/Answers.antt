@@ -1,8 +1,8 @@
 use Rattle.std.proofs.Common.{◌≡◌, ℕ, List, ◌++◌, ap, ◌∙◌}
 use Rattle.std.specs.Prelude.{codes}
-use Rattle.machine_text.specs.Text.{text_of}
+use Rattle.machine_text.specs.Terms.{text_of}
 use Rattle.cmd_ledgers.specs.Report.{line_of, status_name, counts_text}
-use Rattle.cmd_ledgers.proofs.Reports.{on_ok, one_more}
+use Rattle.cmd_ledgers.proofs.TreeReports.{on_ok, one_more}
 use Rattle.cmd_ledgers.proofs.board_report.append_head.Goals as goal
 
 pub returns-clause-ok : goal.returns-clause-ok

@@ -1,9 +1,9 @@
 use Rattle.std.proofs.Common.{◌≡◌, ◌++◌, refl, ap, ◌∙◌}
 use Rattle.std.specs.Prelude.{codes}
 use Rattle.std.specs.Vec.Iter.{into_iter_items}
-use Rattle.machine_text.specs.Packed.{Packed}
+use Rattle.machine_text.specs.Terms.{Packed}
 use Rattle.cmd_ledgers.specs.Report.{line_of, table_lines, greatest_text, head_text, report_text, status_name}
-use Rattle.cmd_ledgers.proofs.Reports.{on_ok, one_more}
+use Rattle.cmd_ledgers.proofs.TreeReports.{on_ok, one_more}
 use Rattle.cmd_ledgers.proofs.board_report.append_report.Goals as goal
 
 pub returns-clause-ok : goal.returns-clause-ok

@@ -1,10 +1,10 @@
 use Rattle.std.proofs.Common.{Option, Ok, sym, subst, take}
-use Rattle.machine_text.specs.Packed.{Packed}
-use Rattle.ledger.specs.LedgerText.{PeekGives}
+use Rattle.machine_text.specs.Terms.{Packed}
+use Rattle.ledger.specs.Terms.{PeekGives}
 use Rattle.cmd_options.specs.declared.ended.Ended.{Ended}
-use Rattle.cmd_ledgers.specs.Reading.{EndsReading}
-use Rattle.cmd_options.specs.declared.stopped.Stopped.TheVariants.{Ended as EndedBy}
-use Rattle.cmd_ledgers.proofs.FirstBytes.{torn_stops, peek_stops}
+use Rattle.cmd_ledgers.specs.LedgerReport.{EndsReading}
+use Rattle.cmd_options.specs.declared.ended.Stopped.TheVariants.{Ended as EndedBy}
+use Rattle.cmd_ledgers.proofs.ReadLedgers.{torn_stops, peek_stops}
 use Rattle.cmd_ledgers.proofs.reading.begin_reading.Goals as goal
 
 pub returns-in-Ok-None-clause-err : goal.returns-in-Ok-None-clause-err

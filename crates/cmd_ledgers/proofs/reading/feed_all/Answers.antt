@@ -1,4 +1,4 @@
-use Rattle.cmd_ledgers.proofs.ReadLaws.{fed_all}
+use Rattle.cmd_ledgers.proofs.ReadLedgers.{fed_all}
 use Rattle.cmd_ledgers.proofs.reading.feed_all.Goals as goal
 
 pub returns-in-Ok-feed_from-clause-ok : goal.returns-in-Ok-feed_from-clause-ok

@@ -1,5 +1,5 @@
 use Rattle.std.proofs.Common.{rules}
-use Rattle.text.proofs.Lines.{line_has_newline}
+use Rattle.text.proofs.Cuts.{line_has_newline}
 use Rattle.cmd_ledgers.proofs.reading.has_newline.Goals as goal
 
 pub returns-in-Some : goal.returns-in-Some

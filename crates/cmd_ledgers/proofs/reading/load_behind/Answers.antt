@@ -1,8 +1,7 @@
 use Rattle.std.proofs.Common.{◌++◌, Ok, Err, ◌∙◌}
-use Rattle.ledger.specs.LedgerText.{LoadGives}
+use Rattle.ledger.specs.Terms.{LoadGives}
 use Rattle.ledger.proofs.Feeding.{header_more}
-use Rattle.cmd_ledgers.proofs.FirstBytes.{finish_ends}
-use Rattle.cmd_ledgers.proofs.ReadLaws.{behind_loads, behind_stands}
+use Rattle.cmd_ledgers.proofs.ReadLedgers.{finish_ends, behind_loads, behind_stands}
 use Rattle.cmd_ledgers.proofs.reading.load_behind.Goals as goal
 
 pub returns-in-Ok-finish-clause-ok : goal.returns-in-Ok-finish-clause-ok

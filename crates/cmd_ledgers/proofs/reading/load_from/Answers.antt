@@ -1,7 +1,6 @@
 use Rattle.std.proofs.Common.{take}
 use Rattle.ledger.proofs.StageLaws.{if_err}
-use Rattle.cmd_ledgers.proofs.FirstBytes.{behind_ends}
-use Rattle.cmd_ledgers.proofs.ReadLaws.{if_loaded, loaded_alone, left_behind}
+use Rattle.cmd_ledgers.proofs.ReadLedgers.{behind_ends, if_loaded, loaded_alone, left_behind}
 use Rattle.cmd_ledgers.proofs.reading.load_from.Goals as goal
 
 pub returns-clause-ok : goal.returns-clause-ok

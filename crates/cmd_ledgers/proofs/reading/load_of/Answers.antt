@@ -1,9 +1,8 @@
 use Rattle.std.proofs.Common.{◌≡◌, subst, take}
-use Rattle.machine_text.specs.Packed.{Packed}
-use Rattle.ledger.specs.LedgerText.{HasHeader}
-use Rattle.ledger.specs.Records.{same_table}
-use Rattle.cmd_ledgers.specs.Reading.{BeginsWithRoot}
-use Rattle.cmd_ledgers.proofs.ReadLaws.{if_loaded, left_behind, no_difference}
+use Rattle.machine_text.specs.Terms.{Packed}
+use Rattle.ledger.specs.Terms.{HasHeader, same_table}
+use Rattle.cmd_ledgers.specs.LedgerReport.{BeginsWithRoot}
+use Rattle.cmd_ledgers.proofs.ReadLedgers.{if_loaded, left_behind, no_difference}
 use Rattle.cmd_ledgers.proofs.reading.load_of.Goals as goal
 
 pub load_behind-requires-clause-header : goal.load_behind-requires-clause-header

@@ -1,6 +1,6 @@
 use Rattle.std.proofs.Common.{◌≤◌, ◌+◌, refl, arith, length}
 use Rattle.std.proofs.lemmas.Slice.{take-put_mid}
-use Rattle.cmd_ledgers.proofs.ReadLaws.{read_stands}
+use Rattle.cmd_ledgers.proofs.ReadLedgers.{read_stands}
 use Rattle.cmd_ledgers.proofs.reading.read_behind.Goals as goal
 
 pub returns-clause-ok : goal.returns-clause-ok

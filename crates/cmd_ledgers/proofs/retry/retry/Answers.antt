@@ -1,10 +1,9 @@
 use Rattle.std.proofs.Common.{◌≡◌, ℕ, List, Option, inl, inr, sym, ap, subst}
 use Rattle.std.proofs.lemmas.Result.{err_from_is_err_and, on_err_weaker}
-use Rattle.wire.specs.Device.{grown}
+use Rattle.wire.specs.Terms.{grown}
 use Rattle.cmd_ledgers.specs.Retry.{AtSomeTime, IsTried, StaysInStep}
-use Rattle.cmd_ledgers.proofs.Gathered.{part_begun, part_whole}
-use Rattle.cmd_ledgers.proofs.Reports.{on_ok}
-use Rattle.cmd_ledgers.proofs.Retrying.{tried_behind, tried_in_step}
+use Rattle.cmd_ledgers.proofs.RetriedLedgers.{part_begun, part_whole, tried_behind, tried_in_step}
+use Rattle.cmd_ledgers.proofs.TreeReports.{on_ok}
 use Rattle.cmd_ledgers.proofs.retry.retry.Goals as goal
 
 pub returns-in-Ok-clause-kept : goal.returns-in-Ok-clause-kept

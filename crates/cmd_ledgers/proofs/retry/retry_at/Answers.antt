@@ -1,5 +1,5 @@
 use Rattle.cmd_ledgers.specs.Retry.{AtSomeTime}
-use Rattle.cmd_ledgers.proofs.Retried.{retried_at}
+use Rattle.cmd_ledgers.proofs.ReadLedgers.{retried_at}
 use Rattle.cmd_ledgers.proofs.retry.retry_at.Goals as goal
 
 pub returns-clause-retries : goal.returns-clause-retries

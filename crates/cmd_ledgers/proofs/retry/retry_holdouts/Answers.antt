@@ -2,15 +2,13 @@ use Rattle.std.proofs.Common.{rules, ◌≡◌, [], ◌∷◌, ◌∙◌, List, 
 use Rattle.std.proofs.lemmas.List.{nil_from_length}
 use Rattle.std.proofs.lemmas.Result.{err_from_is_err_and, on_err_weaker}
 use Rattle.std.specs.Vec.Iter.{into_iter_items}
-use Rattle.machine_text.specs.Packed.{Packed}
-use Rattle.ledger.specs.Held.{IsHoldout}
-use Rattle.ledger.specs.Tally.{AreAll}
-use Rattle.ledger.specs.declared.format.Format.{Format}
-use Rattle.wire.specs.Device.{grown}
+use Rattle.machine_text.specs.Terms.{Packed}
+use Rattle.ledger.specs.Terms.{IsHoldout, AreAll}
+use Rattle.ledger.specs.declared.header.Format.{Format}
+use Rattle.wire.specs.Terms.{grown}
 use Rattle.cmd_ledgers.specs.Retry.{AreTried, AtSomeTime, IsTried, StaysInStep}
-use Rattle.cmd_ledgers.proofs.Gathered.{grown_none, grown_more, part_begun, part_later}
-use Rattle.cmd_ledgers.proofs.Reports.{on_ok}
-use Rattle.cmd_ledgers.proofs.Retrying.{AreWaiting, all_tried, all_wait, ends_at, first_waits, one_tried, others_wait}
+use Rattle.cmd_ledgers.proofs.RetriedLedgers.{grown_none, grown_more, part_begun, part_later, AreWaiting, all_tried, all_wait, ends_at, first_waits, one_tried, others_wait}
+use Rattle.cmd_ledgers.proofs.TreeReports.{on_ok}
 use Rattle.cmd_ledgers.proofs.retry.retry_holdouts.Goals as goal
 
 pub loop-table-init : goal.loop-table-init

@@ -1,12 +1,10 @@
 use Rattle.std.proofs.Common.{◌≡◌, ◌++◌, List}
 use Rattle.std.specs.Vec.Iter.{into_iter_items}
-use Rattle.machine_text.specs.Packed.{Packed}
-use Rattle.ledger.specs.Held.{IsHoldout}
-use Rattle.ledger.specs.Tally.{AreAll}
-use Rattle.wire.specs.Device.{grown}
-use Rattle.cmd_ledgers.specs.Gathered.{HasGrown}
-use Rattle.cmd_ledgers.specs.Retry.{StaysInStep, AtSomeTime, AreTried}
-use Rattle.cmd_ledgers.proofs.Retrying.{AreWaiting}
+use Rattle.machine_text.specs.Terms.{Packed}
+use Rattle.ledger.specs.Terms.{IsHoldout, AreAll}
+use Rattle.wire.specs.Terms.{grown}
+use Rattle.cmd_ledgers.specs.Retry.{HasGrown, StaysInStep, AtSomeTime, AreTried}
+use Rattle.cmd_ledgers.proofs.RetriedLedgers.{AreWaiting}
 use Rattle.cmd_ledgers.proofs.retry.retry_holdouts.Given as goal
 
 -- the board has its root and its version; the ledger, which has only grown, stays in step with it by the lines that are

@@ -1,6 +1,6 @@
 use Rattle.std.proofs.lemmas.Result.{on_err_weaker}
 use Rattle.cmd_ledgers.specs.Retry.{AtSomeTime, LeavesRetried}
-use Rattle.cmd_ledgers.proofs.GoneOn.{leaves_loaded}
+use Rattle.cmd_ledgers.proofs.ReadLedgers.{leaves_loaded}
 use Rattle.cmd_ledgers.proofs.retry.retry_ledger.Goals as goal
 
 pub returns-clause-leaves : goal.returns-clause-leaves

@@ -1,10 +1,9 @@
 use Rattle.std.proofs.Common.{List, ℕ, Option, IfSome, inl, inr, sym, subst}
 use Rattle.std.proofs.lemmas.Result.{err_from_is_err_and}
-use Rattle.ledger.specs.LedgerText.{IsLedgerOf}
+use Rattle.ledger.specs.Terms.{IsLedgerOf}
 use Rattle.cmd_ledgers.specs.Retry.{AreRetried, AtSomeTime, LeavesRetried}
-use Rattle.cmd_ledgers.proofs.Reports.{if_ok, on_err}
-use Rattle.cmd_ledgers.proofs.Retrying.{cut_reads}
-use Rattle.cmd_ledgers.proofs.Torn.{left_retried}
+use Rattle.cmd_ledgers.proofs.TreeReports.{if_ok, on_err}
+use Rattle.cmd_ledgers.proofs.RetriedLedgers.{cut_reads, left_retried}
 use Rattle.cmd_ledgers.proofs.retry.retry_loaded.Goals as goal
 
 pub returns-clause-retries : goal.returns-clause-retries

@@ -1,5 +1,5 @@
-use Rattle.cert.specs.Kinds.{recorded}
-use Rattle.cmd_ledgers.proofs.Retrying.{offer_changes}
+use Rattle.cert.specs.Terms.{recorded}
+use Rattle.cmd_ledgers.proofs.RetriedLedgers.{offer_changes}
 use Rattle.cmd_ledgers.proofs.retry.take.Goals as goal
 
 pub returns-in-Ok-clause-changes : goal.returns-in-Ok-clause-changes

@@ -1,6 +1,6 @@
 use Rattle.cmd_lines.specs.Answer.{SaysOfRecord}
-use Rattle.cmd_lines.proofs.Answering.{all_answered, early_answered, stream_answered}
-use Rattle.cmd_lines.proofs.Early.{IfErr-from_is_err_and, IfErr-passed}
+use Rattle.cmd_lines.proofs.AnsweredLines.{all_answered, early_answered, stream_answered}
+use Rattle.cmd_lines.proofs.AnsweredPieces.{IfErr-from_is_err_and, IfErr-passed}
 use Rattle.cmd_lines.proofs.check.check_for.Goals as goal
 
 pub returns-in_err-outcome-clause-first : goal.returns-in_err-outcome-clause-first

@@ -1,8 +1,7 @@
 use Rattle.std.proofs.Common.{◌≡◌, ◌++◌, ◌≤◌, List, ℕ, length, drop, ◌∙◌, ap, arith}
-use Rattle.machine_text.specs.Text.{text_of}
-use Rattle.cert.specs.Grammar.{record_text}
-use Rattle.cert.specs.Kinds.{recorded}
-use Rattle.cmd_lines.proofs.Kept.{kept_text, ok_then, table_within, when_ok}
+use Rattle.machine_text.specs.Terms.{text_of}
+use Rattle.cert.specs.Terms.{record_text, recorded}
+use Rattle.cmd_lines.proofs.AnsweredLines.{kept_text, ok_then, table_within, when_ok}
 use Rattle.cmd_lines.proofs.decide.append_kept.Goals as goal
 
 pub split_at-requires : goal.split_at-requires

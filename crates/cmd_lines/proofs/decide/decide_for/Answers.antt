@@ -1,6 +1,6 @@
-use Rattle.cmd_lines.specs.Decision.{SaysOfTable}
-use Rattle.cmd_lines.proofs.Keeping.{all_kept, early_kept, stream_kept}
-use Rattle.cmd_lines.proofs.Early.{IfErr-from_is_err_and, IfErr-passed}
+use Rattle.cmd_lines.specs.Answer.{SaysOfTable}
+use Rattle.cmd_lines.proofs.AnsweredLines.{all_kept, early_kept, stream_kept}
+use Rattle.cmd_lines.proofs.AnsweredPieces.{IfErr-from_is_err_and, IfErr-passed}
 use Rattle.cmd_lines.proofs.decide.decide_for.Goals as goal
 
 pub returns-in_ok-tell-clause-ok : goal.returns-in_ok-tell-clause-ok

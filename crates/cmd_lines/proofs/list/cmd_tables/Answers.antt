@@ -1,4 +1,4 @@
-use Rattle.cmd_lines.proofs.Early.{told_saying}
+use Rattle.cmd_lines.proofs.AnsweredPieces.{told_saying}
 use Rattle.cmd_lines.proofs.list.cmd_tables.Goals as goal
 
 pub returns : goal.returns

@@ -1,7 +1,6 @@
 use Rattle.std.proofs.Common.{rules, ◌≡◌, ◌++◌, ◌∷◌, [], ℕ, List, true, false, sym, ◌∙◌, ap, append_assoc, append-nil, refl}
-use Rattle.machine_text.specs.Text.{text_of}
-use Rattle.cmd_lines.specs.Listed.{alone, found_line}
-use Rattle.cmd_lines.specs.Words.{tables_of_column}
+use Rattle.machine_text.specs.Terms.{text_of}
+use Rattle.cmd_lines.specs.Listed.{alone, found_line, tables_of_column}
 use Rattle.cmd_lines.proofs.Firsts.{lists_none, lists_double, lists_first, came_before, came_not}
 use Rattle.cmd_lines.proofs.list.list_column.Goals as goal
 

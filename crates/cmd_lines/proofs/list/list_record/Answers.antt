@@ -1,6 +1,5 @@
 use Rattle.std.proofs.Common.{rules, ◌≡◌, ◌++◌, ◌∷◌, [], ℕ, List, true, false, sym, ◌∙◌, ap, append_assoc, append-nil, refl}
-use Rattle.cert.specs.Grammar.{record_text}
-use Rattle.cert.specs.Kinds.{recorded}
+use Rattle.cert.specs.Terms.{record_text, recorded}
 use Rattle.cmd_lines.specs.Listed.{found_line, of_record}
 use Rattle.cmd_lines.proofs.Firsts.{came_before, came_not, one_double, one_first}
 use Rattle.cmd_lines.proofs.list.list_record.Goals as goal

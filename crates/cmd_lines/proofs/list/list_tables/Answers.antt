@@ -1,6 +1,6 @@
 use Rattle.cmd_lines.specs.declared.list.Lister.{Lister}
 use Rattle.cmd_lines.proofs.Firsts.{all_listed, early_listed, stream_listed}
-use Rattle.cmd_lines.proofs.Early.{IfErr-from_is_err_and, IfErr-passed}
+use Rattle.cmd_lines.proofs.AnsweredPieces.{IfErr-from_is_err_and, IfErr-passed}
 use Rattle.cmd_lines.proofs.list.list_tables.Goals as goal
 
 pub returns-clause-ok : goal.returns-clause-ok

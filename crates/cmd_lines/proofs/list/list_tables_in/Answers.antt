@@ -1,7 +1,7 @@
 use Rattle.std.proofs.Common.{◌≡◌, ◌++◌, [], List, ℕ, Option, Some, sym, ◌∙◌, ap, append-nil, refl}
 use Rattle.std.specs.Borrow.{Bor}
-use Rattle.cmd_lines.specs.Words.{tables_of_word}
-use Rattle.cmd_lines.specs.inside.Listing.{left_tables}
+use Rattle.cmd_lines.specs.Listed.{tables_of_word}
+use Rattle.cmd_lines.specs.inside.{left_tables}
 use Rattle.cmd_lines.proofs.Firsts.{lists_for_nothing, lists_for_both, left_more, grown}
 use Rattle.cmd_lines.proofs.list.list_tables_in.Goals as goal
 

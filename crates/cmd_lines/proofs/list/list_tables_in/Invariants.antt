@@ -1,7 +1,7 @@
 use Rattle.std.proofs.Common.{◌≡◌, ℕ, List, ◌++◌, map}
-use Rattle.machine_text.specs.Packed.{Packed}
+use Rattle.machine_text.specs.Terms.{Packed}
 use Rattle.cmd_lines.specs.Listed.{alone}
-use Rattle.cmd_lines.specs.inside.Listing.{ListsFor, left_tables, size_left}
+use Rattle.cmd_lines.specs.inside.{ListsFor, left_tables, size_left}
 use Rattle.cmd_lines.proofs.list.list_tables_in.Given as goal
 
 -- the tables of the words before what is left were listed

@@ -1,7 +1,7 @@
 use Rattle.std.proofs.Common.{◌≡◌, ◌++◌, [], List, ℕ, Option, Some, sym, ◌∙◌, ap, append-nil, refl}
 use Rattle.std.specs.Borrow.{Bor}
-use Rattle.cmd_lines.specs.Words.{tables_of_column, tables_of_columns, tables_of_word}
-use Rattle.cmd_lines.specs.inside.Listing.{columns_left}
+use Rattle.cmd_lines.specs.Listed.{tables_of_column, tables_of_columns, tables_of_word}
+use Rattle.cmd_lines.specs.inside.{columns_left}
 use Rattle.cmd_lines.proofs.Firsts.{lists_for_nothing, lists_for_both, columns_more, grown}
 use Rattle.cmd_lines.proofs.list.list_word.Goals as goal
 

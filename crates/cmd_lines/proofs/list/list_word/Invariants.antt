@@ -1,8 +1,7 @@
 use Rattle.std.proofs.Common.{◌≡◌, ℕ, List, ◌++◌, map}
-use Rattle.machine_text.specs.Packed.{Packed}
-use Rattle.cmd_lines.specs.Listed.{alone}
-use Rattle.cmd_lines.specs.Words.{tables_of_columns, tables_of_word}
-use Rattle.cmd_lines.specs.inside.Listing.{ListsFor, columns_left, size_left}
+use Rattle.machine_text.specs.Terms.{Packed}
+use Rattle.cmd_lines.specs.Listed.{alone, tables_of_columns, tables_of_word}
+use Rattle.cmd_lines.specs.inside.{ListsFor, columns_left, size_left}
 use Rattle.cmd_lines.proofs.list.list_word.Given as goal
 
 -- the tables of the columns before what is left were listed

@@ -1,7 +1,7 @@
 use Rattle.std.proofs.Common.{◌≡◌, ◌<◌, Some, sym, ap, subst, arith}
-use Rattle.machine_text.specs.Packed.{Packed, entry_of}
-use Rattle.law_turing.specs.Run.{after}
-use Rattle.cmd_lines.proofs.Naming.{stays_halted}
+use Rattle.machine_text.specs.Terms.{Packed, entry_of}
+use Rattle.law_turing.specs.Terms.{after}
+use Rattle.cmd_lines.proofs.ChangedTables.{stays_halted}
 use Rattle.cmd_lines.proofs.normal.first_from.Goals as goal
 
 pub returns-in-Halts-clause-none : goal.returns-in-Halts-clause-none

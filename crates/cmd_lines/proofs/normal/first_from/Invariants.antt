@@ -1,7 +1,7 @@
 use Rattle.std.proofs.Common.{◌≡◌, ◌≤◌, ◌-◌}
-use Rattle.machine_text.specs.Packed.{entry_of}
-use Rattle.run.specs.RunState.{OnRun}
-use Rattle.cmd_lines.specs.Normal.{StaysBelow}
+use Rattle.machine_text.specs.Terms.{entry_of}
+use Rattle.run.specs.Terms.{OnRun}
+use Rattle.cmd_lines.specs.Listed.{StaysBelow}
 use Rattle.cmd_lines.proofs.normal.first_from.Given as goal
 
 -- a time of the run, before which it is in states below `named`

@@ -1,9 +1,9 @@
 use Rattle.std.proofs.Common.{◌≡◌, ℕ, suc, ◌<◌, ◌≤◌, ◌∙◌, ap, subst, arith}
-use Rattle.machine_text.specs.Packed.{Packed, entry_of}
-use Rattle.machine_text.specs.declared.transition.State.{State}
-use Rattle.run.specs.RunState.{RunState}
-use Rattle.cmd_lines.specs.Normal.{ComesFirstTo, IsNormalForm, StaysBelow, facing_right}
-use Rattle.cmd_lines.proofs.Naming.{IsNamed, came_some, came_none, named_first, named_more, named_whole, named_all, normal_alike}
+use Rattle.machine_text.specs.Terms.{Packed, entry_of}
+use Rattle.machine_text.specs.declared.table.State.{State}
+use Rattle.run.specs.Terms.{RunState}
+use Rattle.cmd_lines.specs.Listed.{ComesFirstTo, IsNormalForm, StaysBelow, facing_right}
+use Rattle.cmd_lines.proofs.ChangedTables.{IsNamed, came_some, came_none, named_first, named_more, named_whole, named_all, normal_alike}
 use Rattle.cmd_lines.proofs.Unchanged.{unchanged}
 use Rattle.cmd_lines.proofs.normal.normal_form.Goals as goal
 

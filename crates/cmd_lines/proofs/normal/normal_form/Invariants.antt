@@ -1,7 +1,7 @@
 use Rattle.std.proofs.Common.{◌≡◌, ◌<◌}
-use Rattle.machine_text.specs.Packed.{entry_of}
-use Rattle.cmd_lines.specs.Normal.{facing_right}
-use Rattle.cmd_lines.proofs.Naming.{IsNamed}
+use Rattle.machine_text.specs.Terms.{entry_of}
+use Rattle.cmd_lines.specs.Listed.{facing_right}
+use Rattle.cmd_lines.proofs.ChangedTables.{IsNamed}
 use Rattle.cmd_lines.proofs.normal.normal_form.Given as goal
 
 -- the states below `named` have their names

@@ -1,9 +1,8 @@
 use Rattle.std.proofs.Common.{◌≡◌, ◌∙◌, sym, subst}
 use Rattle.std.specs.Io.KnownBytes.{Appends}
-use Rattle.cmd_options.specs.declared.outcome.Outcome.{Outcome}
-use Rattle.cmd_lines.specs.Said.{TakesStream}
-use Rattle.cmd_lines.proofs.Pieces.{stream_said}
-use Rattle.cmd_lines.proofs.Early.{IfErr-from_is_err_and, last_but, waits_cut, waits_written}
+use Rattle.cmd_options.specs.declared.ended.Outcome.{Outcome}
+use Rattle.cmd_lines.specs.Stream.{TakesStream}
+use Rattle.cmd_lines.proofs.AnsweredPieces.{stream_said, IfErr-from_is_err_and, last_but, waits_cut, waits_written}
 use Rattle.cmd_lines.proofs.said.finish.Goals as goal
 
 pub returns-clause-ok : goal.returns-clause-ok

@@ -2,10 +2,9 @@ use Rattle.std.proofs.Common.{◌≡◌, ◌∙◌, ◌<◌, ℕ, [], length, sy
 use Rattle.std.proofs.lemmas.Grind.{common_steps}
 use Rattle.std.proofs.lemmas.Result.{IfErr-weaker, IfOk-weaker}
 use Rattle.std.specs.Io.KnownBytes.{Consumes, IsAtEnd}
-use Rattle.cmd_options.specs.declared.outcome.Outcome.{Outcome}
-use Rattle.cmd_lines.specs.inside.Taking.{IsSaid}
-use Rattle.cmd_lines.proofs.Early.{IfErr-from_is_err_and, Waits, nothing_more, piece_but, piece_first, said_first, waits_cut, waits_written}
-use Rattle.cmd_lines.proofs.Pieces.{Behind, piece_said}
+use Rattle.cmd_options.specs.declared.ended.Outcome.{Outcome}
+use Rattle.cmd_lines.specs.inside.{IsSaid}
+use Rattle.cmd_lines.proofs.AnsweredPieces.{IfErr-from_is_err_and, Waits, nothing_more, piece_but, piece_first, said_first, waits_cut, waits_written, Behind, piece_said}
 use Rattle.cmd_lines.proofs.said.say_lines.Goals as goal
 
 pub loop-preserved : goal.loop-preserved

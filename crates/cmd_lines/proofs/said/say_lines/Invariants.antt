@@ -1,5 +1,5 @@
 use Rattle.std.proofs.Common.{◌≡◌, []}
-use Rattle.cmd_lines.specs.inside.Taking.{IsSaid}
+use Rattle.cmd_lines.specs.inside.{IsSaid}
 use Rattle.cmd_lines.proofs.said.say_lines.Given as goal
 
 -- what was read is taken, and what was said to it is written

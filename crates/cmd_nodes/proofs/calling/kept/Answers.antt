@@ -1,6 +1,6 @@
 use Rattle.std.proofs.Common.{subst, sym}
-use Rattle.cmd_nodes.specs.Calls.{IsOwnFault}
-use Rattle.cmd_nodes.proofs.OwnFaults.{own_fault}
+use Rattle.cmd_nodes.specs.Faults.{IsOwnFault}
+use Rattle.cmd_nodes.proofs.NodeRounds.{own_fault}
 use Rattle.cmd_nodes.proofs.calling.kept.Goals as goal
 
 pub returns-in-Err : goal.returns-in-Err

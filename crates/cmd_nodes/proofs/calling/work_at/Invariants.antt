@@ -1,5 +1,5 @@
 use Rattle.std.proofs.Common.{◌≤◌}
-use Rattle.peers.specs.Due.{capped_sum}
+use Rattle.peers.specs.Terms.{capped_sum}
 use Rattle.cmd_nodes.proofs.calling.work_at.Given as goal
 
 abbrev pub invariant-loop-made : goal.invariant-loop-made

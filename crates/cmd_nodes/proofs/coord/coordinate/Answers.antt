@@ -1,7 +1,6 @@
 use Rattle.cmd_nodes.specs.Settled.{IsServedBoard}
 use Rattle.cmd_nodes.specs.inside.{IsServed}
-use Rattle.cmd_nodes.proofs.Settling.{holds_tree}
-use Rattle.cmd_nodes.proofs.Steps.{served_board, served_root}
+use Rattle.cmd_nodes.proofs.Coordinators.{holds_tree, served_board, served_root}
 use Rattle.cmd_nodes.proofs.coord.coordinate.Goals as goal
 
 pub returns : goal.returns

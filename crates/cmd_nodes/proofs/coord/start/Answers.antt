@@ -1,5 +1,5 @@
 use Rattle.std.proofs.Common.{sym}
-use Rattle.cmd_nodes.proofs.Steps.{begins_with, start_step}
+use Rattle.cmd_nodes.proofs.Coordinators.{begins_with, start_step}
 use Rattle.cmd_nodes.proofs.coord.start.Goals as goal
 
 pub returns-clause-begins : goal.returns-clause-begins

@@ -1,4 +1,4 @@
-use Rattle.cmd_nodes.proofs.PartServed.{part_starts}
+use Rattle.cmd_nodes.proofs.Coordinators.{part_starts}
 use Rattle.cmd_nodes.proofs.coord.start_part.Goals as goal
 
 pub returns-in-Ok : goal.returns-in-Ok

@@ -1,4 +1,4 @@
-use Rattle.cmd_nodes.proofs.Becoming.{handed_becomes}
+use Rattle.cmd_nodes.proofs.NodeRounds.{handed_becomes}
 use Rattle.cmd_nodes.proofs.coord.take_turn.Goals as goal
 
 pub returns-in-Ok-clause-became : goal.returns-in-Ok-clause-became

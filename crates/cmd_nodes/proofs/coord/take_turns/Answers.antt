@@ -1,6 +1,6 @@
 use Rattle.std.proofs.Common.{sym, subst}
 use Rattle.cmd_nodes.specs.Served.{Becomes}
-use Rattle.cmd_nodes.proofs.Becoming.{became_more}
+use Rattle.cmd_nodes.proofs.NodeRounds.{became_more}
 use Rattle.cmd_nodes.proofs.coord.take_turns.Goals as goal
 use Rattle.cmd_nodes.proofs.coord.take_turns.Goals.{else-loop-test, then-loop-test+in_ok-take_turn+then-eq}
 

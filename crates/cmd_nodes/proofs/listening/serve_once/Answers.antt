@@ -1,7 +1,7 @@
-use Rattle.lease_core.specs.CoordinatorRules.{On}
-use Rattle.peers.specs.Served.{served}
-use Rattle.cmd_nodes.specs.Listened.{traffic}
-use Rattle.cmd_nodes.proofs.Peers.{rounds_became}
+use Rattle.lease_core.specs.Terms.{On}
+use Rattle.peers.specs.Terms.{served}
+use Rattle.cmd_nodes.specs.Served.{traffic}
+use Rattle.cmd_nodes.proofs.NodeRounds.{rounds_became}
 use Rattle.cmd_nodes.proofs.Traffic.{listens_fault, listens_one}
 use Rattle.cmd_nodes.proofs.listening.serve_once.Goals as goal
 

@@ -1,12 +1,10 @@
 use Rattle.std.proofs.Common.{sym, subst}
 use Rattle.std.proofs.lemmas.Result.{err_from_is_err_and}
-use Rattle.lease_core.specs.CoordinatorRules.{Coordinating}
-use Rattle.cmd_nodes.specs.Listened.{HasListened, traffic}
-use Rattle.cmd_nodes.specs.Served.{IsBegunFrom}
+use Rattle.lease_core.specs.Terms.{Coordinating}
+use Rattle.cmd_nodes.specs.Served.{HasListened, traffic, IsBegunFrom}
 use Rattle.cmd_nodes.specs.Settled.{IsSettledBoard}
 use Rattle.cmd_nodes.specs.inside.{IsServed, IsSettled}
-use Rattle.cmd_nodes.proofs.Settling.{reported}
-use Rattle.cmd_nodes.proofs.Steps.{served_root, settled_board}
+use Rattle.cmd_nodes.proofs.Coordinators.{reported, served_root, settled_board}
 use Rattle.cmd_nodes.proofs.Traffic.{early_of, has_begun, until_end}
 use Rattle.cmd_nodes.proofs.listening.serve_tree.Goals as goal
 

@@ -1,11 +1,10 @@
 use Rattle.std.proofs.Common.{List, Option, None, [], refl, subst, sym}
-use Rattle.lease_core.specs.CoordinatorRules.{On}
-use Rattle.peers.specs.Peers.{PeerState}
-use Rattle.peers.specs.Served.{served}
-use Rattle.cmd_nodes.specs.Listened.{Listens, traffic}
+use Rattle.lease_core.specs.Terms.{On}
+use Rattle.peers.specs.Terms.{PeerState, served}
+use Rattle.cmd_nodes.specs.Served.{Listens, traffic}
 use Rattle.cmd_nodes.specs.inside.{IsSettled}
 use Rattle.std.proofs.lemmas.Result.{err_from_is_err_and}
-use Rattle.cmd_nodes.proofs.Steps.{nothing_yet, one_by_one}
+use Rattle.cmd_nodes.proofs.Coordinators.{nothing_yet, one_by_one}
 use Rattle.cmd_nodes.proofs.Traffic.{listens_none, listens_on}
 use Rattle.cmd_nodes.proofs.listening.serve_workers.Goals as goal
 

@@ -1,8 +1,7 @@
 use Rattle.std.proofs.Common.{[], None}
-use Rattle.lease_core.specs.CoordinatorRules.{On}
-use Rattle.peers.specs.Connections.{TakesAsBefore}
-use Rattle.peers.specs.Served.{served}
-use Rattle.cmd_nodes.specs.Listened.{Listens, traffic}
+use Rattle.lease_core.specs.Terms.{On}
+use Rattle.peers.specs.Terms.{TakesAsBefore, served}
+use Rattle.cmd_nodes.specs.Served.{Listens, traffic}
 use Rattle.cmd_nodes.specs.inside.{IsServed}
 use Rattle.cmd_nodes.proofs.listening.serve_workers.Given as goal
 

@@ -1,4 +1,4 @@
-use Rattle.cmd_nodes.proofs.NoneOpen.{not_none}
+use Rattle.cmd_nodes.proofs.Coordinators.{not_none}
 use Rattle.cmd_nodes.proofs.rounds.has_none_open.Goals as goal
 
 pub returns-in-Working-clause-some : goal.returns-in-Working-clause-some

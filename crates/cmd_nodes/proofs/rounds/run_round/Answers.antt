@@ -1,9 +1,9 @@
 use Rattle.std.proofs.Common.{◌∙◌, ◌<◌, ℕ, arith, length, length-set, subst, sym}
 use Rattle.std.proofs.lemmas.List.{get_or_read}
-use Rattle.cmd_nodes.specs.Rounds.{TakesRound}
-use Rattle.cmd_nodes.specs.declared.station.Station.{Station}
-use Rattle.cmd_nodes.proofs.Steps.{one_by_one}
-use Rattle.cmd_nodes.proofs.Taking.{each_done, each_written, rest_left}
+use Rattle.cmd_nodes.specs.Served.{TakesRound}
+use Rattle.cmd_nodes.specs.declared.rounds.Station.{Station}
+use Rattle.cmd_nodes.proofs.Coordinators.{one_by_one}
+use Rattle.cmd_nodes.proofs.NodeRounds.{each_done, each_written, rest_left}
 use Rattle.cmd_nodes.proofs.rounds.run_round.Goals as goal
 
 pub loop-station-preserved : goal.loop-station-preserved

@@ -1,5 +1,5 @@
 use Rattle.std.proofs.Common.{◌≡◌, ◌<◌, ◌≤◌, ℕ, length, get_or}
-use Rattle.cmd_nodes.specs.Rounds.{TakesRound}
+use Rattle.cmd_nodes.specs.Served.{TakesRound}
 use Rattle.cmd_nodes.specs.inside.{IsServed}
 use Rattle.cmd_nodes.proofs.rounds.run_round.Given as goal
 

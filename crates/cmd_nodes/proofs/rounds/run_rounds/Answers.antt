@@ -1,7 +1,7 @@
 use Rattle.std.proofs.Common.{◌+◌}
-use Rattle.cmd_nodes.specs.Rounds.{TakesRound, TakesRounds}
-use Rattle.cmd_nodes.proofs.Steps.{one_by_one}
-use Rattle.cmd_nodes.proofs.Taking.{each_more, round_more}
+use Rattle.cmd_nodes.specs.Served.{TakesRound, TakesRounds}
+use Rattle.cmd_nodes.proofs.Coordinators.{one_by_one}
+use Rattle.cmd_nodes.proofs.NodeRounds.{each_more, round_more}
 use Rattle.cmd_nodes.proofs.rounds.run_rounds.Goals as goal
 
 pub loop-before-preserved : goal.loop-before-preserved

@@ -1,4 +1,4 @@
-use Rattle.cmd_nodes.specs.Rounds.{TakesRounds}
+use Rattle.cmd_nodes.specs.Served.{TakesRounds}
 use Rattle.cmd_nodes.specs.inside.{EachBecomes, IsServed}
 use Rattle.cmd_nodes.proofs.rounds.run_rounds.Given as goal
 

@@ -1,6 +1,6 @@
 use Rattle.std.proofs.lemmas.Result.{on_ok_weaker}
-use Rattle.wire.specs.Happening.{Ticked}
-use Rattle.cmd_nodes.proofs.Steps.{answer_serves}
+use Rattle.wire.specs.Terms.{Ticked}
+use Rattle.cmd_nodes.proofs.Coordinators.{answer_serves}
 use Rattle.cmd_nodes.proofs.rounds.tick.Goals as goal
 
 pub returns-in-Ok : goal.returns-in-Ok

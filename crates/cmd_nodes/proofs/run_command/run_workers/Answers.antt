@@ -1,6 +1,6 @@
 use Rattle.std.proofs.lemmas.Result.{on_ok_weaker}
 use Rattle.cmd_nodes.specs.inside.{IsSettled}
-use Rattle.cmd_nodes.proofs.Taking.{rounds_end}
+use Rattle.cmd_nodes.proofs.NodeRounds.{rounds_end}
 use Rattle.cmd_nodes.proofs.run_command.run_workers.Goals as goal
 
 pub returns-clause-ends : goal.returns-clause-ends

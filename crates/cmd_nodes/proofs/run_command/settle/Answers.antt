@@ -1,8 +1,7 @@
 use Rattle.std.specs.Prelude.{All}
-use Rattle.cmd_nodes.specs.Rounds.{HasTakenRounds}
+use Rattle.cmd_nodes.specs.Served.{HasTakenRounds}
 use Rattle.cmd_nodes.specs.Settled.{IsRunBoard}
-use Rattle.cmd_nodes.proofs.Settling.{reported}
-use Rattle.cmd_nodes.proofs.Steps.{run_board, served_root}
+use Rattle.cmd_nodes.proofs.Coordinators.{reported, run_board, served_root}
 use Rattle.cmd_nodes.proofs.run_command.settle.Goals as goal
 
 pub returns : goal.returns

@@ -1,5 +1,5 @@
 use Rattle.std.proofs.Common.{Bool, ap, ◌∙◌, ◌+◌, get_or, cond}
-use Rattle.cmd_page.proofs.Powers.{reaches_one}
+use Rattle.cmd_page.proofs.PageLaws.{reaches_one}
 use Rattle.cmd_page.proofs.census.count_power.Goals as goal
 
 pub returns-in-Some : goal.returns-in-Some

@@ -1,7 +1,7 @@
 use Rattle.std.proofs.Common.{rules}
-use Rattle.cert.specs.Kinds.{recorded}
+use Rattle.cert.specs.Terms.{recorded}
 use Rattle.cmd_page.specs.Census.{letter_of, entry_count}
-use Rattle.cmd_page.proofs.Counted.{by_entries, by_kind, by_steps, none_counted, counted_more, counted_room, number_more, number_room}
+use Rattle.cmd_page.proofs.PageLaws.{by_entries, by_kind, by_steps, none_counted, counted_more, counted_room, number_more, number_room}
 use Rattle.cmd_page.proofs.census.count_records.Goals as goal
 
 pub loop-r-init : goal.loop-r-init

@@ -1,4 +1,4 @@
-use Rattle.cmd_page.proofs.Counted.{AreCounted, by_entries, by_kind, by_steps}
+use Rattle.cmd_page.proofs.PageLaws.{AreCounted, by_entries, by_kind, by_steps}
 use Rattle.cmd_page.proofs.census.count_records.Given as goal
 
 -- those that were gone through are counted

@@ -1,4 +1,4 @@
-use Rattle.cmd_ledgers.proofs.Reports.{on_ok}
+use Rattle.cmd_ledgers.proofs.TreeReports.{on_ok}
 use Rattle.cmd_page.proofs.PageLaws.{counted_page}
 use Rattle.cmd_page.proofs.page.write_page.Goals as goal
 

@@ -1,6 +1,6 @@
 use Rattle.std.proofs.Common.{◌≡◌, ℕ, List, [], ◌∷◌, ◌++◌, refl, sym, ap, ◌∙◌, append_assoc}
 use Rattle.std.proofs.lemmas.Grind.{flat_map-append}
-use Rattle.cmd_page.specs.Escaped.{embedded, inner_byte}
+use Rattle.cmd_page.specs.Page.{embedded, inner_byte}
 use Rattle.cmd_page.proofs.records.append_object.Goals as goal
 
 pub returns : goal.returns

@@ -1,8 +1,8 @@
 use Rattle.std.proofs.Common.{ℕ, List, ◌++◌, refl, subst, ◌∙◌}
 use Rattle.std.specs.Io.KnownBytes.{Appends}
 use Rattle.std.proofs.KnownBytes.{Appends-trans}
-use Rattle.cmd_json.proofs.Numbering.{stream_numbered}
-use Rattle.cmd_page.specs.Records.{SaysEmbedded, records_head_html, records_heading}
+use Rattle.cmd_json.proofs.JsonAnswers.{stream_numbered}
+use Rattle.cmd_page.specs.Page.{SaysEmbedded, records_head_html, records_heading}
 use Rattle.cmd_page.specs.declared.records.Objects.{Objects}
 use Rattle.cmd_page.specs.declared.script.TheConstants.{RECORDS_SCRIPT}
 use Rattle.cmd_page.proofs.records.record_page_for.Goals as goal

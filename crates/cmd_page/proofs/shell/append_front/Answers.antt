@@ -3,7 +3,7 @@ use Rattle.cmd_page.specs.Page.{front_html, policy}
 use Rattle.cmd_page.specs.declared.look.TheConstants.{LOOK, PAGE_START}
 use Rattle.cmd_page.specs.declared.picture.TheConstants.{PICTURE}
 use Rattle.cmd_page.specs.declared.script.TheConstants.{TOOLS}
-use Rattle.cmd_page.proofs.Appending.{ended, ends, then}
+use Rattle.cmd_page.proofs.PageTexts.{ended, ends, then}
 use Rattle.cmd_page.proofs.shell.append_front.Goals as goal
 
 pub returns : goal.returns

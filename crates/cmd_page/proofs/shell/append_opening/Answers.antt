@@ -1,7 +1,6 @@
-use Rattle.cmd_page.specs.Escaped.{escaped}
-use Rattle.cmd_page.specs.Page.{front_html, opening_html}
+use Rattle.cmd_page.specs.Page.{escaped, front_html, opening_html}
 use Rattle.cmd_page.specs.declared.look.TheConstants.{HEADING}
-use Rattle.cmd_page.proofs.Appending.{ends, then}
+use Rattle.cmd_page.proofs.PageTexts.{ends, then}
 use Rattle.cmd_page.proofs.shell.append_opening.Goals as goal
 
 pub returns : goal.returns

@@ -1,11 +1,8 @@
 use Rattle.std.proofs.Common.{ℕ, List, ◌++◌, ap, ◌∙◌}
-use Rattle.cmd_page.specs.Counting.{census_numbers}
-use Rattle.cmd_page.specs.Counts.{counts_json}
-use Rattle.cmd_page.specs.Escaped.{escaped}
-use Rattle.cmd_page.specs.Heading.{Headed, origin_html}
-use Rattle.cmd_page.specs.Page.{opening_html, page_html, told_html}
+use Rattle.cmd_page.specs.Census.{census_numbers, counts_json}
+use Rattle.cmd_page.specs.Page.{escaped, Headed, origin_html, opening_html, page_html, told_html}
 use Rattle.cmd_page.specs.declared.look.TheConstants.{LINES, REPORT}
-use Rattle.cmd_page.proofs.Appending.{ends, then}
+use Rattle.cmd_page.proofs.PageTexts.{ends, then}
 use Rattle.cmd_page.proofs.shell.append_page.Goals as goal
 
 pub returns : goal.returns

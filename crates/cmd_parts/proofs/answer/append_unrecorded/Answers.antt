@@ -1,6 +1,6 @@
 use Rattle.std.proofs.Common.{rules, inl, inr, List, ℕ}
-use Rattle.ledger.specs.Contents.{IsOpenOn}
-use Rattle.cmd_parts.proofs.Extending.{ok_so}
+use Rattle.ledger.specs.Terms.{IsOpenOn}
+use Rattle.cmd_parts.proofs.FolderAnswers.{ok_so}
 use Rattle.cmd_parts.proofs.answer.append_unrecorded.Goals as goal
 
 pub returns-then-is_open : goal.returns-then-is_open

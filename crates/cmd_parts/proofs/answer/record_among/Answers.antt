@@ -1,9 +1,8 @@
 use Rattle.std.proofs.Common.{rules, ◌≡◌, true, false, sym, ap, subst, ◌∙◌}
-use Rattle.cert.specs.Claim.{Recorded}
-use Rattle.cert.specs.Kinds.{recorded}
-use Rattle.ledger.specs.Records.{claim_in, same_table}
-use Rattle.ledger.proofs.Same.{same_is}
-use Rattle.cmd_parts.proofs.Claims.{claim_first, claim_later}
+use Rattle.cert.specs.Terms.{Recorded, recorded}
+use Rattle.ledger.specs.Terms.{claim_in, same_table}
+use Rattle.ledger.proofs.Claims.{same_is}
+use Rattle.cmd_parts.proofs.FolderAnswers.{claim_first, claim_later}
 use Rattle.cmd_parts.proofs.answer.record_among.Goals as goal
 
 pub returns-then-eq-clause-claim : goal.returns-then-eq-clause-claim

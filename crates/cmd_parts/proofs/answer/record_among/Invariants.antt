@@ -1,5 +1,5 @@
 use Rattle.std.proofs.Common.{◌≡◌}
-use Rattle.ledger.specs.Records.{claim_in}
+use Rattle.ledger.specs.Terms.{claim_in}
 use Rattle.cmd_parts.proofs.answer.record_among.Given as goal
 
 -- what is claimed of the table stands among the records that are left

@@ -1,7 +1,7 @@
 use Rattle.std.proofs.Common.{◌≡◌, ℕ, List, Option, inr}
 use Rattle.std.proofs.lemmas.Result.{on_err_weaker, on_ok_weaker}
-use Rattle.cmd_parts.specs.Split.{LeavesBegun, begun_part}
-use Rattle.cmd_parts.proofs.BegunAt.{made_at}
+use Rattle.cmd_parts.specs.Settle.{LeavesBegun, begun_part}
+use Rattle.cmd_parts.proofs.SplitTrees.{made_at}
 use Rattle.cmd_parts.proofs.folder.begin_part_at.Goals as goal
 
 pub returns-clause-ok : goal.returns-clause-ok

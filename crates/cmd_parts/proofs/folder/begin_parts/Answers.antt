@@ -1,10 +1,9 @@
 use Rattle.std.proofs.Common.{rules, ◌≡◌, List, ◌∷◌, inl, inr, sym, subst}
-use Rattle.machine_text.specs.Packed.{Packed}
-use Rattle.machine_text.specs.Text.{text_of}
-use Rattle.cmd_ledgers.proofs.Reports.{on_err}
+use Rattle.machine_text.specs.Terms.{Packed, text_of}
+use Rattle.cmd_ledgers.proofs.TreeReports.{on_err}
 use Rattle.cmd_parts.specs.AtPaths.{AreBegunAt, LeavesPartsAt}
-use Rattle.cmd_parts.specs.Split.{path_within}
-use Rattle.cmd_parts.proofs.BegunAt.{begun_told, left_told, told_then}
+use Rattle.cmd_parts.specs.Settle.{path_within}
+use Rattle.cmd_parts.proofs.SplitTrees.{begun_told, left_told, told_then}
 use Rattle.cmd_parts.proofs.folder.begin_parts.Goals as goal
 
 pub loop-root-preserved : goal.loop-root-preserved

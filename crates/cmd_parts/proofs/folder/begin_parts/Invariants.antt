@@ -1,8 +1,7 @@
 use Rattle.std.proofs.Common.{List}
-use Rattle.machine_text.specs.Packed.{Packed}
-use Rattle.ledger.specs.Contents.{IsOpenOn}
-use Rattle.ledger.specs.Tally.{AreAll}
-use Rattle.files.specs.Paths.{IsToldStill, Shelf}
+use Rattle.machine_text.specs.Terms.{Packed}
+use Rattle.ledger.specs.Terms.{IsOpenOn, AreAll}
+use Rattle.files.specs.Terms.{IsToldStill, Shelf}
 use Rattle.cmd_parts.specs.AtPaths.{AreBegunAt, LeavesPartsAt}
 use Rattle.cmd_parts.proofs.folder.begin_parts.Given as goal
 

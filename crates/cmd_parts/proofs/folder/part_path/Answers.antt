@@ -1,8 +1,8 @@
 use Rattle.std.proofs.Common.{sym, subst}
 use Rattle.std.specs.Str.{IsUtf8}
 use Rattle.std.proofs.lemmas.Str.{IsUtf8-from_ascii}
-use Rattle.machine_text.specs.Text.{text_of}
-use Rattle.machine_text.proofs.Ascii.{text_below}
+use Rattle.machine_text.specs.Terms.{text_of}
+use Rattle.machine_text.proofs.RoundTrip.{text_below}
 use Rattle.cmd_parts.proofs.folder.part_path.Goals as goal
 
 pub unreachable-requires : goal.unreachable-requires

@@ -1,10 +1,9 @@
 use Rattle.std.proofs.Common.{◌≡◌, ◌≢◌, ◌∙◌, refl, sym, subst}
 use Rattle.std.specs.Prelude.{Contains, codes}
-use Rattle.machine_text.specs.Packed.{Packed}
-use Rattle.ledger.specs.Contents.{IsOpenOn}
-use Rattle.ledger.specs.Records.{same_table}
-use Rattle.ledger.proofs.Same.{differ}
-use Rattle.cmd_ledgers.proofs.ReadLaws.{no_difference}
+use Rattle.machine_text.specs.Terms.{Packed}
+use Rattle.ledger.specs.Terms.{IsOpenOn, same_table}
+use Rattle.ledger.proofs.Claims.{differ}
+use Rattle.cmd_ledgers.proofs.ReadLedgers.{no_difference}
 use Rattle.cmd_parts.specs.Join.{IsMetAs}
 use Rattle.cmd_parts.proofs.JoinedParts.{met_loaded, unmet}
 use Rattle.cmd_parts.proofs.join.add_loaded.Goals as goal

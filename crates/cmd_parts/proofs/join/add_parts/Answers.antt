@@ -3,14 +3,13 @@ use Rattle.std.proofs.lemmas.List.{take-append-drop, take_more}
 use Rattle.std.proofs.lemmas.Result.{err_from_is_err_and}
 use Rattle.std.proofs.lemmas.List.Elements.{All-contains_itself}
 use Rattle.std.specs.Prelude.{Contains}
-use Rattle.machine_text.specs.Packed.{Packed}
-use Rattle.ledger.specs.Contents.{Contents, IsOpenOn}
-use Rattle.ledger.proofs.TextOrder.{all_apart}
+use Rattle.machine_text.specs.Terms.{Packed}
+use Rattle.ledger.specs.Terms.{Contents, IsOpenOn}
+use Rattle.ledger.proofs.Sets.{all_apart}
 use Rattle.cmd_options.specs.declared.ended.Ended.{Ended}
 use Rattle.cmd_options.specs.declared.ended.Ended.TheVariants.{Stream}
 use Rattle.cmd_parts.specs.inside.{AreAdded, SaysMet}
-use Rattle.cmd_parts.proofs.JoinEnds.{met_before}
-use Rattle.cmd_parts.proofs.JoinedParts.{added_more, none_added, not_added}
+use Rattle.cmd_parts.proofs.JoinedParts.{met_before, added_more, none_added, not_added}
 use Rattle.cmd_parts.proofs.join.add_parts.Goals as goal
 use Rattle.cmd_parts.proofs.join.add_parts.Goals.{then-not-branch, else-not-branch}
 

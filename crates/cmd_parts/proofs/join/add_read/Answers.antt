@@ -1,8 +1,8 @@
 use Rattle.std.proofs.Common.{rules, ◌≡◌, inl, inr, refl, subst}
 use Rattle.std.specs.Prelude.{codes}
-use Rattle.cmd_ledgers.specs.Reading.{EndsReading}
-use Rattle.cmd_options.specs.declared.stopped.Stopped.{Stopped}
-use Rattle.cmd_options.specs.declared.stopped.Stopped.TheVariants.{Ended as EndedBy}
+use Rattle.cmd_ledgers.specs.Terms.{EndsReading}
+use Rattle.cmd_options.specs.declared.ended.Stopped.{Stopped}
+use Rattle.cmd_options.specs.declared.ended.Stopped.TheVariants.{Ended as EndedBy}
 use Rattle.cmd_options.specs.declared.ended.Ended.TheVariants.{BadHeader, WrongRoot}
 use Rattle.cmd_parts.specs.Join.{IsMetAs, IsMetIn}
 use Rattle.cmd_parts.proofs.JoinedParts.{met_so, unmet}

@@ -1,15 +1,12 @@
 use Rattle.std.proofs.Common.{rules, ◌≡◌, ◌∙◌, false, true, List, inl, inr, sym, subst}
 use Rattle.std.proofs.lemmas.Result.{err_from_is_err_and}
 use Rattle.std.specs.Prelude.{codes}
-use Rattle.machine_text.specs.Packed.{Packed}
-use Rattle.ledger.specs.Contents.{IsOpenOn}
-use Rattle.ledger.specs.Tally.{AreAll}
+use Rattle.machine_text.specs.Terms.{Packed}
+use Rattle.ledger.specs.Terms.{IsOpenOn, AreAll}
 use Rattle.cmd_parts.specs.inside.{AreOthers}
 use Rattle.cmd_parts.specs.Join.{IsReadAt}
-use Rattle.cmd_parts.specs.Split.{path_within}
-use Rattle.cmd_parts.proofs.JoinedParts.{gathered_so}
-use Rattle.cmd_parts.proofs.JoinEnds.{none_met, warns_behind}
-use Rattle.cmd_parts.proofs.Sparing.{spared}
+use Rattle.cmd_parts.specs.Settle.{path_within}
+use Rattle.cmd_parts.proofs.JoinedParts.{gathered_so, none_met, warns_behind, spared}
 use Rattle.cmd_parts.proofs.join.gather.Goals as goal
 use Rattle.cmd_parts.proofs.join.gather.Goals.{then-is_kept, else-is_kept}
 

@@ -1,4 +1,4 @@
-use Rattle.cmd_parts.proofs.JoinAt.{told_alone}
+use Rattle.cmd_parts.proofs.JoinedParts.{told_alone}
 use Rattle.cmd_parts.proofs.join.join_alone.Goals as goal
 
 pub returns : goal.returns

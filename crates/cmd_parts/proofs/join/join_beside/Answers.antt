@@ -1,6 +1,6 @@
 use Rattle.std.proofs.Common.{Ok, Err, refl}
 use Rattle.cmd_parts.specs.AtPaths.{finds_at}
-use Rattle.cmd_parts.proofs.Sparing.{spared_at}
+use Rattle.cmd_parts.proofs.JoinedParts.{spared_at}
 use Rattle.cmd_parts.proofs.join.join_beside.Goals as goal
 
 pub returns-clause-spared : goal.returns-clause-spared

@@ -1,7 +1,7 @@
 use Rattle.std.proofs.Common.{inl, inr, refl, sym, subst}
 use Rattle.std.proofs.lemmas.Result.{err_from_is_err_and}
 use Rattle.cmd_options.specs.declared.ended.Ended.{Ended}
-use Rattle.cmd_options.specs.Ends.{PrintsNothing}
+use Rattle.cmd_options.specs.Terms.{PrintsNothing}
 use Rattle.cmd_parts.specs.AtPaths.{finds_at}
 use Rattle.cmd_parts.specs.Join.{WarnsFirst}
 use Rattle.cmd_parts.proofs.join.join_into.Goals as goal

@@ -1,8 +1,8 @@
 use Rattle.std.proofs.Common.{rules, ◌≡◌, Some, None}
 use Rattle.std.specs.Prelude.{codes}
-use Rattle.machine_text.specs.Text.{text_of}
+use Rattle.machine_text.specs.Terms.{text_of}
 use Rattle.cmd_parts.specs.Join.{IsMet, IsMetIn}
-use Rattle.cmd_parts.specs.Split.{path_within}
+use Rattle.cmd_parts.specs.Settle.{path_within}
 use Rattle.cmd_parts.proofs.JoinedParts.{met_nothing, met_so, met_there, unmet}
 use Rattle.cmd_parts.proofs.join.join_part.Goals as goal
 

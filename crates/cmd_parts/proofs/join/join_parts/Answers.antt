@@ -1,7 +1,6 @@
 use Rattle.std.proofs.Common.{inr}
 use Rattle.ledger.proofs.StageLaws.{if_err}
-use Rattle.cmd_parts.proofs.JoinEnds.{warns_all}
-use Rattle.cmd_parts.proofs.JoinedParts.{all_told}
+use Rattle.cmd_parts.proofs.JoinedParts.{warns_all, all_told}
 use Rattle.cmd_parts.proofs.join.join_parts.Goals as goal
 
 pub returns-clause-tells : goal.returns-clause-tells

@@ -1,7 +1,6 @@
 use Rattle.std.proofs.Common.{rules, ◌≡◌, List, ◌++◌, sym, subst}
-use Rattle.machine_text.specs.Packed.{Packed}
-use Rattle.ledger.specs.Contents.{IsOpenOn}
-use Rattle.ledger.specs.Tally.{AreAll}
+use Rattle.machine_text.specs.Terms.{Packed}
+use Rattle.ledger.specs.Terms.{IsOpenOn, AreAll}
 use Rattle.cmd_parts.proofs.join.open_tables.Goals as goal
 
 pub loop-root-init : goal.loop-root-init

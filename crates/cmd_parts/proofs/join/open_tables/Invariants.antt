@@ -1,6 +1,5 @@
 use Rattle.std.proofs.Common.{◌++◌}
-use Rattle.ledger.specs.Contents.{IsOpenOn}
-use Rattle.ledger.specs.Tally.{AreAll}
+use Rattle.ledger.specs.Terms.{IsOpenOn, AreAll}
 use Rattle.cmd_parts.proofs.join.open_tables.Given as goal
 
 -- those that were taken, and those that are left, are all

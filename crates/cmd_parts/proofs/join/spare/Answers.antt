@@ -1,9 +1,8 @@
 use Rattle.std.proofs.Common.{rules, All, subst, take_all, arith}
 use Rattle.std.proofs.lemmas.List.Elements.{All-more}
 use Rattle.std.specs.Prelude.{false}
-use Rattle.machine_text.specs.Packed.{Packed}
-use Rattle.machine_text.specs.Text.{text_of}
-use Rattle.cmd_parts.specs.Split.{path_within}
+use Rattle.machine_text.specs.Terms.{Packed, text_of}
+use Rattle.cmd_parts.specs.Settle.{path_within}
 use Rattle.cmd_parts.proofs.join.spare.Goals as goal
 
 pub loop-root-preserved : goal.loop-root-preserved

@@ -1,5 +1,5 @@
 use Rattle.cmd_parts.proofs.join.tell_whole.Goals as goal
-use Rattle.totals.specs.Parts.{joined_with}
+use Rattle.totals.specs.Terms.{joined_with}
 
 pub returns-clause-ok : goal.returns-clause-ok
 returns-clause-ok g c = λ parts whole.

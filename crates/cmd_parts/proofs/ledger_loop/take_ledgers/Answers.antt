@@ -1,10 +1,9 @@
 use Rattle.std.proofs.Common.{◌<◌, ℕ, [], length, take, subst, rules, arith}
 use Rattle.std.proofs.lemmas.Grind.{common_steps}
 use Rattle.std.specs.Io.KnownBytes.{Consumes, IsAtEnd}
-use Rattle.cmd_parts.proofs.Taking.{nothing_read, piece_read, stream_taken}
+use Rattle.cmd_parts.proofs.TakenLedgers.{nothing_read, piece_read, stream_taken, end_first, piece_first, read_first}
 use Rattle.std.proofs.KnownBytes.{Keeps-refl}
-use Rattle.cmd_lines.proofs.Early.{IfErr-passed}
-use Rattle.cmd_parts.proofs.FirstLedgers.{end_first, piece_first, read_first}
+use Rattle.cmd_lines.proofs.AnsweredPieces.{IfErr-passed}
 use Rattle.cmd_parts.proofs.ledger_loop.take_ledgers.Goals as goal
 
 pub loop-init : goal.loop-init

@@ -1,4 +1,4 @@
-use Rattle.cmd_parts.specs.inside.Taking.{HasReadLedgers}
+use Rattle.cmd_parts.specs.inside.Joining.{HasReadLedgers}
 use Rattle.cmd_parts.proofs.ledger_loop.take_ledgers.Given as goal
 
 -- what was read is taken

@@ -1,7 +1,7 @@
 use Rattle.std.proofs.Common.{[], inl, inr, refl}
 use Rattle.std.proofs.KnownBytes.{Appends-nil}
-use Rattle.cmd_lines.proofs.Early.{IfErr-passed, said_so}
-use Rattle.cmd_parts.proofs.Kept.{ledger_first, ledger_stream}
+use Rattle.cmd_lines.proofs.AnsweredPieces.{IfErr-passed, said_so}
+use Rattle.cmd_parts.proofs.FolderAnswers.{ledger_first, ledger_stream}
 use Rattle.cmd_parts.proofs.look.answer_at.Goals as goal
 
 pub returns-in_ok-outcome-in-Ok-clause-ok : goal.returns-in_ok-outcome-in-Ok-clause-ok

@@ -1,7 +1,7 @@
 use Rattle.std.proofs.Common.{[], inl, inr, rules, refl}
 use Rattle.std.proofs.KnownBytes.{Appends-nil}
-use Rattle.cmd_lines.proofs.Early.{IfErr-from_is_err_and, IfErr-passed, said_so}
-use Rattle.cmd_parts.proofs.Kept.{folder_first, folder_stream}
+use Rattle.cmd_lines.proofs.AnsweredPieces.{IfErr-from_is_err_and, IfErr-passed, said_so}
+use Rattle.cmd_parts.proofs.FolderAnswers.{folder_first, folder_stream}
 use Rattle.cmd_parts.proofs.look.answer_in_folder.Goals as goal
 
 pub returns-clause-ok : goal.returns-clause-ok

@@ -1,7 +1,7 @@
 use Rattle.std.proofs.lemmas.Result.{on_err_weaker}
-use Rattle.cmd_ledgers.specs.Retry.{AtSomeTime}
-use Rattle.cmd_ledgers.proofs.GoneOn.{leaves_loaded}
-use Rattle.cmd_parts.specs.Settling.{ComesFirst, LeavesSettled}
+use Rattle.cmd_ledgers.specs.Terms.{AtSomeTime}
+use Rattle.cmd_ledgers.proofs.ReadLedgers.{leaves_loaded}
+use Rattle.cmd_parts.specs.Settle.{ComesFirst, LeavesSettled}
 use Rattle.cmd_parts.proofs.settle.settle_ledger.Goals as goal
 
 pub returns-clause-leaves : goal.returns-clause-leaves

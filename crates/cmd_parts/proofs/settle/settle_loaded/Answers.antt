@@ -1,10 +1,10 @@
 use Rattle.std.proofs.Common.{List, ℕ, Option, IfSome, inl, inr, refl, sym, subst}
 use Rattle.std.proofs.lemmas.Result.{err_from_is_err_and}
-use Rattle.ledger.specs.LedgerText.{IsLedgerOf}
-use Rattle.cmd_ledgers.specs.Retry.{AtSomeTime}
-use Rattle.cmd_ledgers.proofs.Retrying.{cut_reads}
-use Rattle.cmd_parts.specs.Settling.{ComesFirst, LeavesSettled, SettlesMany}
-use Rattle.cmd_parts.proofs.Torn.{left_settled}
+use Rattle.ledger.specs.Terms.{IsLedgerOf}
+use Rattle.cmd_ledgers.specs.Terms.{AtSomeTime}
+use Rattle.cmd_ledgers.proofs.RetriedLedgers.{cut_reads}
+use Rattle.cmd_parts.specs.Settle.{ComesFirst, LeavesSettled, SettlesMany}
+use Rattle.cmd_parts.proofs.SettledTables.{left_settled}
 use Rattle.cmd_parts.proofs.settle.settle_loaded.Goals as goal
 
 pub returns-clause-step : goal.returns-clause-step

@@ -1,7 +1,7 @@
 use Rattle.std.specs.Prelude.{codes}
-use Rattle.cmd_ledgers.specs.Retry.{AtSomeTime}
-use Rattle.cmd_parts.specs.Split.{path_within}
-use Rattle.cmd_parts.proofs.SplitAt.{splits}
+use Rattle.cmd_ledgers.specs.Terms.{AtSomeTime}
+use Rattle.cmd_parts.specs.Settle.{path_within}
+use Rattle.cmd_parts.proofs.SplitTrees.{splits}
 use Rattle.cmd_parts.proofs.split.cmd_split.Goals as goal
 
 pub returns : goal.returns

@@ -1,12 +1,12 @@
 use Rattle.std.proofs.Common.{rules, ◌≡◌, ℕ, List, Option, inr, subst}
 use Rattle.std.specs.Prelude.{false, Ok}
 use Rattle.std.proofs.lemmas.Result.{on_err_weaker}
-use Rattle.machine_text.specs.Text.{text_of}
-use Rattle.cmd_ledgers.specs.Retry.{AtSomeTime}
-use Rattle.cmd_ledgers.proofs.GoneOn.{gone_on}
-use Rattle.cmd_ledgers.proofs.Reports.{if_ok}
+use Rattle.machine_text.specs.Terms.{text_of}
+use Rattle.cmd_ledgers.specs.Terms.{AtSomeTime}
+use Rattle.cmd_ledgers.proofs.ReadLedgers.{gone_on}
+use Rattle.cmd_ledgers.proofs.TreeReports.{if_ok}
 use Rattle.cmd_parts.specs.AtPaths.{GrowsAt, LeavesTrunkAt, SeesAt}
-use Rattle.cmd_parts.specs.Split.{GrowsTrunk, LeavesTrunk, path_within}
+use Rattle.cmd_parts.specs.Settle.{GrowsTrunk, LeavesTrunk, path_within}
 use Rattle.cmd_parts.proofs.split.grown_trunk.Goals as goal
 
 pub returns-clause-grows : goal.returns-clause-grows

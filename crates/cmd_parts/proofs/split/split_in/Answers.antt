@@ -1,9 +1,9 @@
 use Rattle.std.proofs.Common.{rules, ◌≡◌, refl, subst}
 use Rattle.std.specs.Prelude.{codes, List, ℕ, Ok, Some}
-use Rattle.cmd_ledgers.proofs.Reports.{on_err}
-use Rattle.cmd_ledgers.specs.Retry.{AtSomeTime}
-use Rattle.cmd_parts.specs.Split.{path_within}
-use Rattle.cmd_parts.proofs.SplitAt.{leaves_parts, leaves_trunk, split_so}
+use Rattle.cmd_ledgers.proofs.TreeReports.{on_err}
+use Rattle.cmd_ledgers.specs.Terms.{AtSomeTime}
+use Rattle.cmd_parts.specs.Settle.{path_within}
+use Rattle.cmd_parts.proofs.SplitTrees.{leaves_parts, leaves_trunk, split_so}
 use Rattle.cmd_parts.proofs.split.split_in.Goals as goal
 
 pub returns-clause-splits : goal.returns-clause-splits

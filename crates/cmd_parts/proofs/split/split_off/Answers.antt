@@ -1,5 +1,5 @@
-use Rattle.cmd_ledgers.proofs.Reports.{on_err}
-use Rattle.cmd_parts.proofs.BegunAt.{all_left}
+use Rattle.cmd_ledgers.proofs.TreeReports.{on_err}
+use Rattle.cmd_parts.proofs.SplitTrees.{all_left}
 use Rattle.cmd_parts.proofs.split.split_off.Goals as goal
 
 pub returns-in_err-append_split-clause-leaves : goal.returns-in_err-append_split-clause-leaves

@@ -1,6 +1,6 @@
-use Rattle.cmd_ledgers.proofs.Settling.{tells}
-use Rattle.cmd_parts.specs.Walking.{IsWalkedBoard}
-use Rattle.cmd_parts.proofs.Reports.{walks_settle}
+use Rattle.cmd_ledgers.proofs.TreeReports.{tells}
+use Rattle.cmd_parts.specs.Settle.{IsWalkedBoard}
+use Rattle.cmd_parts.proofs.SettledTables.{walks_settle}
 use Rattle.cmd_parts.proofs.walk.cmd_walk.Goals as goal
 
 pub returns-clause-tells : goal.returns-clause-tells

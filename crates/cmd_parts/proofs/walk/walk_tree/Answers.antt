@@ -1,15 +1,13 @@
 use Rattle.std.proofs.Common.{Ok, sym, subst}
-use Rattle.law_turing.specs.Halting.{HaltsAt}
-use Rattle.law_tree.specs.Best.{Scores}
-use Rattle.law_tree.specs.Tables.{IsBestOfTable}
-use Rattle.machine_text.specs.Packed.{Packed}
-use Rattle.ledger.specs.Contents.{Contents}
-use Rattle.ledger.specs.declared.format.Format.TheVariants.{Two}
-use Rattle.cmd_options.specs.declared.outcome.Outcome.{Outcome}
-use Rattle.cmd_ledgers.specs.Settled.{ReportsTree}
-use Rattle.cmd_parts.specs.Walking.{IsWalkedBoard, WalksTree}
-use Rattle.cmd_parts.proofs.Answered.{none_open}
-use Rattle.cmd_parts.proofs.Reports.{walk_reports}
+use Rattle.law_turing.specs.Terms.{HaltsAt}
+use Rattle.law_tree.specs.Terms.{Scores, IsBestOfTable}
+use Rattle.machine_text.specs.Terms.{Packed}
+use Rattle.ledger.specs.Terms.{Contents}
+use Rattle.ledger.specs.declared.header.Format.TheVariants.{Two}
+use Rattle.cmd_options.specs.declared.ended.Outcome.{Outcome}
+use Rattle.cmd_ledgers.specs.Terms.{ReportsTree}
+use Rattle.cmd_parts.specs.Settle.{IsWalkedBoard, WalksTree}
+use Rattle.cmd_parts.proofs.SettledTables.{none_open, walk_reports}
 use Rattle.cmd_parts.proofs.walk.walk_tree.Goals as goal
 
 pub returns : goal.returns

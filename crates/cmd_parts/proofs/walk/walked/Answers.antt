@@ -1,4 +1,4 @@
-use Rattle.cmd_parts.proofs.Answered.{begins, goes_on}
+use Rattle.cmd_parts.proofs.SettledTables.{begins, goes_on}
 use Rattle.cmd_parts.proofs.walk.walked.Goals as goal
 
 pub loop-init : goal.loop-init

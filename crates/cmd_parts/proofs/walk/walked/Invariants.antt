@@ -1,4 +1,4 @@
-use Rattle.cmd_parts.specs.inside.Walking.{IsOfAnswers}
+use Rattle.cmd_parts.specs.inside.{IsOfAnswers}
 use Rattle.cmd_parts.proofs.walk.walked.Given as goal
 
 -- it tells of answers of the tree

@@ -1,5 +1,5 @@
 use Rattle.std.proofs.Common.{◌+◌, ◌*◌, ◌++◌, ◌∙◌, ap}
-use Rattle.cmd_show.specs.Picture.{document}
+use Rattle.cmd_show.specs.Drawn.{document}
 use Rattle.cmd_show.proofs.document.picture.Goals as goal
 
 pub returns : goal.returns

@@ -1,4 +1,4 @@
-use Rattle.cmd_show.proofs.WholeLines.{told_lines}
+use Rattle.cmd_show.proofs.PictureLaws.{told_lines}
 use Rattle.cmd_show.proofs.show.cmd_show.Goals as goal
 
 pub returns : goal.returns

@@ -1,6 +1,6 @@
 use Rattle.std.proofs.Common.{inl, refl, subst, List, ℕ}
-use Rattle.cmd_show.specs.inside.Printing.{KeepsLines}
-use Rattle.cmd_show.proofs.WholeLines.{keeps_all, keeps_both}
+use Rattle.cmd_show.specs.inside.{KeepsLines}
+use Rattle.cmd_show.proofs.PictureLaws.{keeps_all, keeps_both}
 use Rattle.cmd_show.proofs.show.show_for.Goals as goal
 
 pub pieces-init : goal.pieces-init

@@ -1,4 +1,4 @@
-use Rattle.cmd_show.specs.inside.Printing.{KeepsLines}
+use Rattle.cmd_show.specs.inside.{KeepsLines}
 use Rattle.std.proofs.Common.{[]}
 use Rattle.cmd_show.proofs.show.show_for.Given as goal
 

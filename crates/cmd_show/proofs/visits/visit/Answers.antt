@@ -1,7 +1,7 @@
 use Rattle.std.proofs.Common.{◌≡◌, ◌+◌, ◌∙◌, subst, arith}
-use Rattle.law_turing.specs.Tape.{Tape}
-use Rattle.run.specs.Steps.{TakesStep}
-use Rattle.cmd_show.proofs.VisitLaws.{Reaches, took, visited_step}
+use Rattle.law_turing.specs.Terms.{Tape}
+use Rattle.run.specs.Terms.{TakesStep}
+use Rattle.cmd_show.proofs.PictureLaws.{Reaches, took, visited_step}
 use Rattle.cmd_show.proofs.visits.visit.Goals as goal
 
 -- a step more, and the cell of its head

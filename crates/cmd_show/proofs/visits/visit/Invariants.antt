@@ -1,6 +1,6 @@
 use Rattle.std.proofs.Common.{◌≡◌, ℕ, ◌≤◌, ◌-◌}
-use Rattle.machine_text.specs.Packed.{entry_of}
-use Rattle.cmd_show.specs.Visits.{IsVisited}
+use Rattle.machine_text.specs.Terms.{entry_of}
+use Rattle.cmd_show.specs.Shown.{IsVisited}
 use Rattle.cmd_show.proofs.visits.visit.Given as goal
 
 -- a later time of the same run, with the cells that were visited up to then

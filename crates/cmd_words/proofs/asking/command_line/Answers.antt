@@ -1,8 +1,7 @@
 use Rattle.std.proofs.Common.{◌≡◌, true, Option, List, ℕ, Some, sym, ◌∙◌, subst, codes}
 use Rattle.std.proofs.lemmas.Result.{IfOk-weaker}
 use Rattle.clap.specs.Words.{Row, app_of, is_simple, subcommand_of}
-use Rattle.cmd_words.specs.Asked.{AreAsked, IsSource, OfCommand}
-use Rattle.cmd_words.specs.Given.{IsFlag, rows_found}
+use Rattle.cmd_words.specs.Asked.{AreAsked, IsSource, OfCommand, IsFlag, rows_found}
 use Rattle.cmd_words.proofs.Givens.{both_of}
 use Rattle.cmd_words.proofs.asking.command_line.Goals as goal
 

@@ -1,5 +1,4 @@
-use Rattle.far.proofs.RoundTrip.{texts_back, same_back, bytes_above_space}
-use Rattle.far.proofs.Short.{fields_are_short}
+use Rattle.far.proofs.Written.{texts_back, same_back, bytes_above_space, fields_are_short}
 use Rattle.far.proofs.laws.texts_read_back.Goals as goal
 
 pub returns : goal.returns

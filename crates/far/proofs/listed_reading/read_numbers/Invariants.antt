@@ -1,6 +1,6 @@
 use Rattle.std.proofs.Common.{◌≡◌, length}
 use Rattle.far.specs.ListedTexts.{numbers_in}
-use Rattle.far.proofs.ReadLists.{before}
+use Rattle.far.proofs.WellRead.{before}
 use Rattle.far.proofs.listed_reading.read_numbers.Given as goal
 
 abbrev pub decreases-parts : goal.decreases-parts

@@ -1,7 +1,7 @@
 use Rattle.std.proofs.Common.{◌≡◌, length}
-use Rattle.text.specs.Parts.{parts_of}
+use Rattle.text.specs.Terms.{parts_of}
 use Rattle.far.specs.ListedTexts.{rows_in}
-use Rattle.far.proofs.ReadLists.{before}
+use Rattle.far.proofs.WellRead.{before}
 use Rattle.far.proofs.listed_reading.rows_of.Given as goal
 
 abbrev pub decreases-parts : goal.decreases-parts

@@ -1,6 +1,6 @@
 use Rattle.std.proofs.Common.{◌≡◌, subst, arith}
 use Rattle.far.specs.inside.Reading.{AreEdges}
-use Rattle.far.proofs.Reading.{edges_more, edges_all, no_number}
+use Rattle.far.proofs.Digits.{edges_more, edges_all, no_number}
 use Rattle.far.proofs.numbers.rows_of.Goals as goal
 
 pub returns-in_err-rows-clause-none : goal.returns-in_err-rows-clause-none

@@ -1,7 +1,7 @@
 use Rattle.std.proofs.Common.{ℕ, List, [], ◌∷◌, ◌++◌}
 use Rattle.std.specs.Prelude.{codes, decimal}
-use Rattle.cmd_ledgers.proofs.Reports.{on_ok, one_more}
-use Rattle.find_search.proofs.Texts.{appended_last}
+use Rattle.cmd_ledgers.proofs.TreeReports.{on_ok, one_more}
+use Rattle.find_search.proofs.Lines.{appended_last}
 use Rattle.find_search.proofs.telling.append_first.Goals as goal
 
 pub returns : goal.returns

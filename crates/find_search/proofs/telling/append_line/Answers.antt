@@ -1,5 +1,5 @@
-use Rattle.cmd_ledgers.proofs.Reports.{on_ok, one_more}
-use Rattle.find_search.specs.Refusals.{count_behind, first_refused}
+use Rattle.cmd_ledgers.proofs.TreeReports.{on_ok, one_more}
+use Rattle.find_search.specs.Known.{count_behind, first_refused}
 use Rattle.find_search.proofs.telling.append_line.Goals as goal
 
 pub returns : goal.returns

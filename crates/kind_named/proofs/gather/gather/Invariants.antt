@@ -1,4 +1,4 @@
-use Rattle.kind_named.specs.inside.Arena.{RopesAdded}
+use Rattle.kind_named.specs.inside.Tokens.{RopesAdded}
 use Rattle.kind_named.specs.inside.Sections.{TakesOff}
 use Rattle.kind_named.proofs.gather.gather.Given as goal
 

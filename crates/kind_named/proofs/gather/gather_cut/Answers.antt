@@ -1,6 +1,6 @@
 use Rattle.std.proofs.Common.{◌∙◌, sym, refl}
 use Rattle.std.proofs.lemmas.List.{append-nil}
-use Rattle.kind_named.specs.inside.Words.{c_left, separator_left}
+use Rattle.kind_named.specs.inside.Tokens.{c_left, separator_left}
 use Rattle.kind_named.proofs.ArenaLaws.{extends_same}
 use Rattle.kind_named.proofs.Openings.{within_rest}
 use Rattle.kind_named.proofs.SectionLaws.{token_back, section_taken, gathers_next}

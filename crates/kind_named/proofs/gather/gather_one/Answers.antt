@@ -1,5 +1,5 @@
 use Rattle.std.proofs.Common.{refl}
-use Rattle.kind_named.specs.inside.Words.{c_left, separator_left}
+use Rattle.kind_named.specs.inside.Tokens.{c_left, separator_left}
 use Rattle.kind_named.proofs.Openings.{within_rest}
 use Rattle.kind_named.proofs.SectionLaws.{token_taken, gathers_next, below_as}
 use Rattle.kind_named.proofs.gather.gather_one.Goals as goal

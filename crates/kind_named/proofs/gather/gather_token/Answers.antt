@@ -1,5 +1,5 @@
 use Rattle.std.proofs.Common.{refl}
-use Rattle.kind_named.specs.inside.Words.{separator_left}
+use Rattle.kind_named.specs.inside.Tokens.{separator_left}
 use Rattle.kind_named.proofs.SectionLaws.{token_back}
 use Rattle.kind_named.proofs.gather.gather_token.Goals as goal
 

@@ -1,5 +1,5 @@
-use Rattle.kind_named.specs.inside.Glider.{glider_tokens}
-use Rattle.kind_named.proofs.Endings.{glider_free}
+use Rattle.kind_named.specs.inside.Loop.{glider_tokens}
+use Rattle.kind_named.proofs.Openings.{glider_free}
 use Rattle.kind_named.proofs.glider.glider.Goals as goal
 
 pub returns-clause-free : goal.returns-clause-free

@@ -1,5 +1,5 @@
 use Rattle.kind_named.proofs.SectionLaws.{withinS_none}
-use Rattle.kind_named.proofs.Jumping.{jumps_plain, jumps_glide}
+use Rattle.kind_named.proofs.Looping.{jumps_plain, jumps_glide}
 use Rattle.kind_named.proofs.jump.jump.Goals as goal
 
 pub gather-requires : goal.gather-requires

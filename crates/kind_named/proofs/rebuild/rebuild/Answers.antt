@@ -1,5 +1,5 @@
 use Rattle.std.proofs.Common.{◌∙◌, sym, refl}
-use Rattle.kind_named.proofs.Rebuilding.{rebuilt_none, below_at, rebuilt_more, rebuilt_all}
+use Rattle.kind_named.proofs.SectionLaws.{rebuilt_none, below_at, rebuilt_more, rebuilt_all}
 use Rattle.kind_named.proofs.rebuild.rebuild.Goals as goal
 
 pub loop-section-init : goal.loop-section-init

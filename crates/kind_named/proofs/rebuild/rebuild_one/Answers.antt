@@ -1,5 +1,5 @@
 use Rattle.std.proofs.Common.{refl}
-use Rattle.kind_named.proofs.Rebuilding.{rebuild_group, rebuild_cut, rebuild_rope}
+use Rattle.kind_named.proofs.SectionLaws.{rebuild_group, rebuild_cut, rebuild_rope}
 use Rattle.kind_named.proofs.rebuild.rebuild_one.Goals as goal
 
 pub returns-in_ok-put_left-in-Group-clause-rebuilds : goal.returns-in_ok-put_left-in-Group-clause-rebuilds

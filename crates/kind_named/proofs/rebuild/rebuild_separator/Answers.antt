@@ -1,5 +1,5 @@
 use Rattle.std.proofs.Common.{◌/◌, ◌%◌, ◌-◌, ◌∙◌, ap, refl, arith}
-use Rattle.kind_named.proofs.Rebuilding.{rebuild_separator}
+use Rattle.kind_named.proofs.SectionLaws.{rebuild_separator}
 use Rattle.kind_named.proofs.rebuild.rebuild_separator.Goals as goal
 
 pub returns-clause-rebuilds : goal.returns-clause-rebuilds

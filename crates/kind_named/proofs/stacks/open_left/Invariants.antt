@@ -1,5 +1,4 @@
-use Rattle.kind_named.specs.inside.Arena.{RopesAdded}
-use Rattle.kind_named.specs.inside.Tokens.{SameLeft}
+use Rattle.kind_named.specs.inside.Tokens.{RopesAdded, SameLeft}
 use Rattle.kind_named.proofs.stacks.open_left.Given as goal
 
 abbrev pub invariant-loop : goal.invariant-loop

@@ -1,6 +1,6 @@
 use Rattle.std.proofs.Common.{arith}
 use Rattle.kind_named.proofs.Openings.{right_later}
-use Rattle.kind_named.proofs.Passing.{passes_rope, passes_wound, passes_opened}
+use Rattle.kind_named.proofs.Leading.{passes_rope, passes_wound, passes_opened}
 use Rattle.kind_named.proofs.steps.at_rope.Goals as goal
 
 pub open_right-requires : goal.open_right-requires

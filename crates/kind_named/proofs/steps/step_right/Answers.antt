@@ -1,5 +1,5 @@
 use Rattle.kind_named.proofs.Openings.{within_rest, rope_taken}
-use Rattle.kind_named.proofs.Passing.{lead_x, lead_y, lead_cut, lead_rope}
+use Rattle.kind_named.proofs.Leading.{lead_x, lead_y, lead_cut, lead_rope}
 use Rattle.kind_named.proofs.steps.step_right.Goals as goal
 
 pub at_cut-requires : goal.at_cut-requires

@@ -1,5 +1,5 @@
 use Rattle.kind_named.proofs.Openings.{within_pushed}
-use Rattle.kind_named.proofs.Passing.{winds_put}
+use Rattle.kind_named.proofs.Leading.{winds_put}
 use Rattle.kind_named.proofs.steps.wind.Goals as goal
 
 pub put_left-requires-clause-left : goal.put_left-requires-clause-left

@@ -1,4 +1,4 @@
-use Rattle.kind_named.proofs.Passing.{no_token}
+use Rattle.kind_named.proofs.Leading.{no_token}
 use Rattle.kind_named.proofs.visit.ended.Goals as goal
 
 pub returns-then-is_empty : goal.returns-then-is_empty

@@ -1,4 +1,4 @@
-use Rattle.kind_named.proofs.Passing.{lead_from}
+use Rattle.kind_named.proofs.Leading.{lead_from}
 use Rattle.kind_named.proofs.visit.step.Goals as goal
 
 pub returns-in_ok-after-in-Right : goal.returns-in_ok-after-in-Right

@@ -1,4 +1,4 @@
-use Rattle.kind_named.proofs.Passing.{lead_stay, lead_on, visited}
+use Rattle.kind_named.proofs.Leading.{lead_stay, lead_on, visited}
 use Rattle.kind_named.proofs.visit.visit.Goals as goal
 
 pub loop-init : goal.loop-init

@@ -1,4 +1,4 @@
-use Rattle.kind_named.specs.declared.heading.Heading.TheVariants.{Left}
+use Rattle.kind_named.specs.declared.tokens.Heading.TheVariants.{Left}
 use Rattle.kind_named.specs.inside.Tokens.{Leads}
 use Rattle.kind_named.proofs.visit.visit.Given as goal
 

@@ -1,5 +1,5 @@
 use Rattle.std.proofs.Common.{◌≡◌, drop, map}
-use Rattle.law_induction.specs.Rules.{by_induction}
+use Rattle.law_induction.specs.Terms.{by_induction}
 use Rattle.kind_rules.specs.Views.{proved_in}
 use Rattle.kind_rules.proofs.judging.by_induction.Given as goal
 

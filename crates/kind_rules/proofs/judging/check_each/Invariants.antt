@@ -1,6 +1,6 @@
 use Rattle.std.proofs.Common.{◌≡◌, drop, map}
-use Rattle.machine_text.specs.Packed.{entry_of}
-use Rattle.law_induction.specs.Rules.{each_proved, forms_of, all_forms}
+use Rattle.machine_text.specs.Terms.{entry_of}
+use Rattle.law_induction.specs.Terms.{each_proved, forms_of, all_forms}
 use Rattle.kind_rules.specs.Views.{proved_in, group_in}
 use Rattle.kind_rules.proofs.judging.check_each.Given as goal
 

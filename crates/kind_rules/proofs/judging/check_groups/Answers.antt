@@ -1,10 +1,10 @@
 use Rattle.std.proofs.Common.{◌≡◌, true, List, map, take, subst}
-use Rattle.machine_text.specs.Packed.{entry_of}
-use Rattle.kind_rules.specs.declared.unpacked.ProvedRule.{ProvedRule}
+use Rattle.machine_text.specs.Terms.{entry_of}
+use Rattle.kind_rules.specs.declared.texts_given.ProvedRule.{ProvedRule}
 use Rattle.std.specs.Global.{Vec}
-use Rattle.law_induction.specs.Rules.{all_forms, is_group_proved}
+use Rattle.law_induction.specs.Terms.{all_forms, is_group_proved}
 use Rattle.kind_rules.specs.Views.{proved_in, group_in}
-use Rattle.kind_rules.proofs.ListLaws.{proved_step}
+use Rattle.kind_rules.proofs.RuleLaws.{proved_step}
 use Rattle.kind_rules.proofs.judging.check_groups.Goals as goal
 
 pub loop-k-preserved : goal.loop-k-preserved

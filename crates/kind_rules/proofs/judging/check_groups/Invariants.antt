@@ -1,6 +1,6 @@
 use Rattle.std.proofs.Common.{◌≡◌, map, take, drop, []}
-use Rattle.machine_text.specs.Packed.{entry_of}
-use Rattle.law_induction.specs.Rules.{are_proved, all_forms}
+use Rattle.machine_text.specs.Terms.{entry_of}
+use Rattle.law_induction.specs.Terms.{are_proved, all_forms}
 use Rattle.kind_rules.specs.Views.{group_in}
 use Rattle.kind_rules.proofs.judging.check_groups.Given as goal
 

@@ -1,5 +1,5 @@
 use Rattle.std.proofs.Common.{◌≡◌, ◌+◌, drop}
-use Rattle.law_induction.specs.Scripts.{steps_in}
+use Rattle.law_induction.specs.Terms.{steps_in}
 use Rattle.kind_rules.proofs.judging.left_behind.Given as goal
 
 abbrev pub invariant-loop-x : goal.invariant-loop-x

@@ -1,5 +1,5 @@
 use Rattle.std.proofs.Common.{◌≡◌, ◌+◌, drop, map}
-use Rattle.law_induction.specs.Rules.{steps_of_all}
+use Rattle.law_induction.specs.Terms.{steps_of_all}
 use Rattle.kind_rules.specs.Views.{proved_in}
 use Rattle.kind_rules.proofs.judging.left_behind_all.Given as goal
 

@@ -1,5 +1,5 @@
 use Rattle.std.proofs.Common.{◌≡◌, ◌+◌, drop, map}
-use Rattle.law_induction.specs.Rules.{steps_of_groups}
+use Rattle.law_induction.specs.Terms.{steps_of_groups}
 use Rattle.kind_rules.specs.Views.{group_in}
 use Rattle.kind_rules.proofs.judging.left_behind_groups.Given as goal
 

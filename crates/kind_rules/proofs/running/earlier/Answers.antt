@@ -1,5 +1,5 @@
 use Rattle.std.proofs.Common.{◌≡◌, ◌<◌, length, arith}
-use Rattle.kind_rules.proofs.ListLaws.{found_here, passed_by, passed_length}
+use Rattle.kind_rules.proofs.RuleLaws.{found_here, passed_by, passed_length}
 use Rattle.kind_rules.proofs.running.earlier.Goals as goal
 
 pub returns-then-rest-len-clause-found : goal.returns-then-rest-len-clause-found

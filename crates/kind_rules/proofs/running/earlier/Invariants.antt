@@ -1,6 +1,5 @@
 use Rattle.std.proofs.Common.{◌≡◌, ◌+◌, drop, length, map}
-use Rattle.law_induction.specs.Scripts.{rule_at}
-use Rattle.law_induction.specs.Rules.{all_forms}
+use Rattle.law_induction.specs.Terms.{rule_at, all_forms}
 use Rattle.kind_rules.specs.Views.{group_in}
 use Rattle.kind_rules.proofs.running.earlier.Given as goal
 

@@ -1,8 +1,8 @@
 use Rattle.std.proofs.Common.{Some, map, ap, ◌∙◌}
-use Rattle.law_induction.specs.Rules.{forms_of, all_forms}
-use Rattle.kind_rules.specs.declared.unpacked.ProvedRule.{ProvedRule}
+use Rattle.law_induction.specs.Terms.{forms_of, all_forms}
+use Rattle.kind_rules.specs.declared.texts_given.ProvedRule.{ProvedRule}
 use Rattle.kind_rules.specs.Views.{rule_in, proved_in, group_in}
-use Rattle.kind_rules.proofs.ListLaws.{grouped_found, grouped_past, grouped_earlier}
+use Rattle.kind_rules.proofs.RuleLaws.{grouped_found, grouped_past, grouped_earlier}
 use Rattle.kind_rules.proofs.running.grouped.Goals as goal
 
 pub returns-then-rest-s : goal.returns-then-rest-s

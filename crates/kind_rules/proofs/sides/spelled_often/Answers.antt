@@ -1,7 +1,7 @@
 use Rattle.std.proofs.Common.{◌≡◌, ◌+◌, ◌-◌, ◌++◌, [], ap, ◌∙◌}
-use Rattle.law_machines.specs.Words.{repeat}
-use Rattle.law_induction.specs.Words.{word_symbols}
-use Rattle.kind_rules.proofs.Spelling.{repeated_more}
+use Rattle.law_machines.specs.Terms.{repeat}
+use Rattle.law_induction.specs.Terms.{word_symbols}
+use Rattle.kind_rules.proofs.RuleLaws.{repeated_more}
 use Rattle.kind_rules.proofs.sides.spelled_often.Goals as goal
 
 pub loop-i-preserved : goal.loop-i-preserved

@@ -1,6 +1,6 @@
 use Rattle.std.proofs.Common.{◌≡◌, ◌-◌, ◌++◌, []}
-use Rattle.law_machines.specs.Words.{repeat}
-use Rattle.law_induction.specs.Words.{word_symbols}
+use Rattle.law_machines.specs.Terms.{repeat}
+use Rattle.law_induction.specs.Terms.{word_symbols}
 use Rattle.kind_rules.proofs.sides.spelled_often.Given as goal
 
 abbrev pub invariant-loop-i : goal.invariant-loop-i

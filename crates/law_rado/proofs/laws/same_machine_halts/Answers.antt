@@ -1,6 +1,4 @@
-use Rattle.law_rado.proofs.Machines.{machine_there, machine_back, same_states}
-use Rattle.law_rado.proofs.Runs.{same_halts}
-use Rattle.law_rado.proofs.Ones.{same_score}
+use Rattle.law_rado.proofs.SameMachineLaws.{machine_there, machine_back, same_states, same_halts, same_score}
 use Rattle.law_rado.proofs.laws.same_machine_halts.Goals as goal
 
 pub returns : goal.returns

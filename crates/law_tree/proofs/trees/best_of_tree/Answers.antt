@@ -1,6 +1,6 @@
-use Rattle.law_turing.specs.Halting.{HaltsAt}
-use Rattle.law_tree.specs.Best.{Scores}
-use Rattle.law_tree.proofs.Worth.{steps_worth, score_worth}
+use Rattle.law_turing.specs.Terms.{HaltsAt}
+use Rattle.law_tree.specs.Tree.{Scores}
+use Rattle.law_tree.proofs.Extensions.{steps_worth, score_worth}
 use Rattle.law_tree.proofs.TreeLaws.{best_is_greatest}
 use Rattle.law_tree.proofs.trees.best_of_tree.Goals as goal
 

@@ -1,7 +1,7 @@
-use Rattle.law_turing.specs.Halting.{HaltsAt}
-use Rattle.law_tree.specs.Best.{Scores}
-use Rattle.law_tree.proofs.Worth.{steps_worth, score_worth}
-use Rattle.law_tree.proofs.Rado.{greatest_of_all, rado_is_greatest}
+use Rattle.law_turing.specs.Terms.{HaltsAt}
+use Rattle.law_tree.specs.Tree.{Scores}
+use Rattle.law_tree.proofs.Extensions.{steps_worth, score_worth}
+use Rattle.law_tree.proofs.TreeLaws.{greatest_of_all, rado_is_greatest}
 use Rattle.law_tree.proofs.trees.rado_of_tree.Goals as goal
 
 -- for the number of steps, and for the score

@@ -1,9 +1,8 @@
 use Rattle.std.proofs.Common.{arith}
-use Rattle.law_turing.specs.Halting.{HaltsAt}
-use Rattle.law_tree.proofs.Worth.{steps_worth}
-use Rattle.law_turing.proofs.OneState.{rado_of_one}
-use Rattle.law_tree.proofs.Rado.{greatest_of_all, rado_is_greatest}
-use Rattle.law_tree.proofs.OneStateTree.{one_state_decided}
+use Rattle.law_turing.specs.Terms.{HaltsAt}
+use Rattle.law_tree.proofs.Extensions.{steps_worth}
+use Rattle.law_turing.proofs.Cycles.{rado_of_one}
+use Rattle.law_tree.proofs.TreeLaws.{greatest_of_all, rado_is_greatest, one_state_decided}
 use Rattle.law_tree.proofs.trees.tree_of_one_state.Goals as goal
 
 -- from the empty machine and its children

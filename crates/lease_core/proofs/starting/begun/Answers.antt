@@ -1,6 +1,6 @@
 use Rattle.std.proofs.Common.{◌∙◌, [], inr, subst}
-use Rattle.machine_text.specs.Packed.{Packed}
-use Rattle.ledger.specs.LedgerText.{HasHeader}
+use Rattle.machine_text.specs.Terms.{Packed}
+use Rattle.ledger.specs.Terms.{HasHeader}
 use Rattle.lease_core.proofs.starting.begun.Goals as goal
 
 pub returns-in-Ok : goal.returns-in-Ok

@@ -1,6 +1,6 @@
 use Rattle.std.proofs.Common.{◌∙◌}
 use Rattle.std.proofs.lemmas.Result.{err_from_is_err_and}
-use Rattle.lease_core.proofs.Begun.{refused_so, cant_so, begins_so}
+use Rattle.lease_core.proofs.CoordinatorLedgers.{refused_so, cant_so, begins_so}
 use Rattle.lease_core.proofs.starting.begun_by.Goals as goal
 
 pub returns-in_ok-held-in-Ok : goal.returns-in_ok-held-in-Ok

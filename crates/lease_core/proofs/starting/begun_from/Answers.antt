@@ -1,7 +1,7 @@
 use Rattle.std.proofs.Common.{◌∙◌, [], Err, subst, sym}
 use Rattle.lease_core.specs.inside.Begun.{BeginsFrom}
-use Rattle.lease_core.specs.declared.start_fault.StartFault.{StartFault}
-use Rattle.lease_core.proofs.Begun.{begins_all, stops_from}
+use Rattle.lease_core.specs.declared.starting.StartFault.{StartFault}
+use Rattle.lease_core.proofs.CoordinatorLedgers.{begins_all, stops_from}
 use Rattle.lease_core.proofs.starting.begun_from.Goals as goal
 
 pub returns-in-Ok : goal.returns-in-Ok

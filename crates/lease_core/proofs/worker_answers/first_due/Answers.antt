@@ -1,6 +1,6 @@
-use Rattle.cert.specs.Kinds.{recorded}
-use Rattle.ledger.specs.Records.{same_table}
-use Rattle.lease_core.proofs.WorkerDue.{passes_next}
+use Rattle.cert.specs.Terms.{recorded}
+use Rattle.ledger.specs.Terms.{same_table}
+use Rattle.lease_core.proofs.DueRecords.{passes_next}
 use Rattle.lease_core.proofs.worker_answers.first_due.Goals as goal
 
 pub loop-r-preserved : goal.loop-r-preserved

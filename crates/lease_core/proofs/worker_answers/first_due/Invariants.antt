@@ -1,4 +1,4 @@
-use Rattle.lease_core.proofs.WorkerDue.{Passed}
+use Rattle.lease_core.proofs.DueRecords.{Passed}
 use Rattle.lease_core.proofs.worker_answers.first_due.Given as goal
 
 -- the records that are left stand from the place on, and those before it are acknowledged

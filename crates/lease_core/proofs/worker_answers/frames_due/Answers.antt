@@ -1,14 +1,11 @@
 use Rattle.std.proofs.Common.{ℕ, ◌++◌, List, map, take, ◌∙◌, ap}
 use Rattle.std.proofs.lemmas.Result.{err_from_is_err_and}
-use Rattle.cert.specs.Claim.{Recorded}
-use Rattle.cert.specs.Kinds.{recorded}
-use Rattle.ledger.specs.Records.{same_table}
-use Rattle.wire.specs.Grammar.{frames_of}
-use Rattle.wire.specs.Message.{Rec}
+use Rattle.cert.specs.Terms.{Recorded, recorded}
+use Rattle.ledger.specs.Terms.{same_table}
+use Rattle.wire.specs.Terms.{frames_of, Rec}
 use Rattle.lease_core.specs.Limits.{tick_record_limit}
 use Rattle.lease_core.specs.WorkerState.{unacknowledged}
-use Rattle.lease_core.proofs.WorkerDue.{due_from}
-use Rattle.lease_core.proofs.WorkerFrames.{sends_one, passes_one, is_due}
+use Rattle.lease_core.proofs.DueRecords.{due_from, sends_one, passes_one, is_due}
 use Rattle.lease_core.proofs.worker_answers.frames_due.Goals as goal
 
 pub loop-r-init : goal.loop-r-init

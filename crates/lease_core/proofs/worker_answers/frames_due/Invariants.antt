@@ -1,6 +1,5 @@
 use Rattle.std.proofs.Common.{◌≡◌, ◌++◌, map, take}
-use Rattle.wire.specs.Grammar.{frames_of}
-use Rattle.wire.specs.Message.{Rec}
+use Rattle.wire.specs.Terms.{frames_of, Rec}
 use Rattle.lease_core.specs.Limits.{tick_record_limit}
 use Rattle.lease_core.specs.WorkerState.{unacknowledged}
 use Rattle.lease_core.proofs.worker_answers.frames_due.Given as goal

@@ -1,5 +1,5 @@
-use Rattle.ledger.specs.Records.{same_table}
-use Rattle.lease_core.proofs.WorkerBoards.{root_order, root_test}
+use Rattle.ledger.specs.Terms.{same_table}
+use Rattle.lease_core.proofs.WorkerLaws.{root_order, root_test}
 use Rattle.lease_core.proofs.worker_turns.has_root.Goals as goal
 
 pub returns-in-Some-clause-root : goal.returns-in-Some-clause-root

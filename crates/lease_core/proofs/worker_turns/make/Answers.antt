@@ -1,8 +1,6 @@
 use Rattle.std.proofs.Common.{Some, subst}
-use Rattle.cert.specs.Claim.{Claim}
-use Rattle.cert.specs.Kinds.{owned_recorded, recorded}
-use Rattle.cert.specs.Scored.{GetsScore}
-use Rattle.lease_core.proofs.Making.{scored_shown, scored_first, made_unscored}
+use Rattle.cert.specs.Terms.{Claim, owned_recorded, recorded, GetsScore}
+use Rattle.lease_core.proofs.DueRecords.{scored_shown, scored_first, made_unscored}
 use Rattle.lease_core.proofs.worker_turns.make.Goals as goal
 
 pub put-requires-clause-first : goal.put-requires-clause-first

@@ -1,4 +1,4 @@
-use Rattle.lease_core.proofs.WorkerBoards.{first_open}
+use Rattle.lease_core.proofs.WorkerLaws.{first_open}
 use Rattle.lease_core.proofs.worker_turns.next_table.Goals as goal
 
 pub returns-in-Some-clause-first : goal.returns-in-Some-clause-first

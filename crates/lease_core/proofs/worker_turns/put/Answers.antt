@@ -1,8 +1,8 @@
 use Rattle.std.proofs.Common.{List, ℕ, ◌++◌, Ok, refl, ◌∙◌, ap, rules}
-use Rattle.cert.specs.Kinds.{recorded}
-use Rattle.ledger.specs.LedgerText.{gained_line}
-use Rattle.ledger.specs.declared.taken.Taken.TheVariants.{New}
-use Rattle.lease_core.proofs.Making.{makes}
+use Rattle.cert.specs.Terms.{recorded}
+use Rattle.ledger.specs.Terms.{gained_line}
+use Rattle.ledger.specs.declared.faults.Taken.TheVariants.{New}
+use Rattle.lease_core.proofs.DueRecords.{makes}
 use Rattle.lease_core.proofs.worker_turns.put.Goals as goal
 
 -- answered by name, so that nothing is offered where an edit makes it false

@@ -1,4 +1,4 @@
-use Rattle.leases.proofs.ChildLaws.{if_few}
+use Rattle.leases.proofs.FreeLaws.{if_few}
 use Rattle.leases.proofs.children.children_of.Goals as goal
 
 pub returns-clause-most : goal.returns-clause-most

@@ -1,6 +1,6 @@
 use Rattle.std.proofs.Common.{inl, inr, ap, subst, List, [], length, Contains, arith}
-use Rattle.machine_text.specs.Packed.{Packed}
-use Rattle.ledger.proofs.Apart.{first_or_later}
+use Rattle.machine_text.specs.Terms.{Packed}
+use Rattle.ledger.proofs.HeldLaws.{first_or_later}
 use Rattle.leases.proofs.children.free_all.Goals as goal
 
 pub loop-child-preserved : goal.loop-child-preserved

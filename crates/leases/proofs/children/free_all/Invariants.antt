@@ -1,6 +1,6 @@
 use Rattle.std.proofs.Common.{◌≤◌, ◌⊎◌, length, Contains}
-use Rattle.machine_text.specs.Packed.{Packed}
-use Rattle.leases.proofs.OfferLaws.{KeepsAll}
+use Rattle.machine_text.specs.Terms.{Packed}
+use Rattle.leases.proofs.FreeLaws.{KeepsAll}
 use Rattle.leases.proofs.children.free_all.Given as goal
 
 abbrev pub invariant-loop-child : goal.invariant-loop-child

@@ -1,11 +1,10 @@
 use Rattle.std.proofs.Common.{◌≡◌, ◌⊎◌, true, false, inl, inr, refl, sym, ◌∙◌, ap, subst, List, ◌∷◌, Some, length, Contains, arith}
-use Rattle.machine_text.specs.Packed.{Packed}
-use Rattle.ledger.specs.Records.{same_table}
-use Rattle.ledger.proofs.Apart.{first_or_later, first_member, later_member}
-use Rattle.ledger.proofs.Same.{same_is, apart}
-use Rattle.ledger.specs.Contents.{IsOpenOn}
+use Rattle.machine_text.specs.Terms.{Packed}
+use Rattle.ledger.specs.Terms.{same_table, IsOpenOn}
+use Rattle.ledger.proofs.HeldLaws.{first_or_later, first_member, later_member}
+use Rattle.ledger.proofs.Claims.{same_is, apart}
 use Rattle.leases.specs.Leases.{came_under}
-use Rattle.leases.specs.inside.Children.{ComesUnder}
+use Rattle.leases.specs.inside.{ComesUnder}
 use Rattle.leases.proofs.Granting.{came_here, came_other, came_cases}
 use Rattle.leases.proofs.children.lease_all.Goals as goal
 

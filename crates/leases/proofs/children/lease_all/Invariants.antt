@@ -1,11 +1,11 @@
 use Rattle.std.proofs.Common.{◌≡◌, ◌≤◌, ◌⊎◌, Some, length, Contains}
-use Rattle.machine_text.specs.Packed.{Packed}
+use Rattle.machine_text.specs.Terms.{Packed}
 use Rattle.indexmap.specs.IndexMap.{spare}
 use Rattle.indexmap.specs.IndexSet.{spare as spare_of}
-use Rattle.ledger.specs.Contents.{IsOpenOn}
+use Rattle.ledger.specs.Terms.{IsOpenOn}
 use Rattle.leases.specs.Leases.{came_under}
-use Rattle.leases.specs.inside.Children.{CameOnly}
-use Rattle.leases.proofs.OfferLaws.{KeepsAll}
+use Rattle.leases.specs.inside.{CameOnly}
+use Rattle.leases.proofs.FreeLaws.{KeepsAll}
 use Rattle.leases.proofs.children.lease_all.Given as goal
 
 abbrev pub invariant-loop-child : goal.invariant-loop-child

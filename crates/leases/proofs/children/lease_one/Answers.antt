@@ -1,4 +1,4 @@
-use Rattle.ledger.specs.Records.{same_table}
+use Rattle.ledger.specs.Terms.{same_table}
 use Rattle.leases.proofs.FreeLaws.{gains_key}
 use Rattle.leases.proofs.children.lease_one.Goals as goal
 

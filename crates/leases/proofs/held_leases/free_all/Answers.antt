@@ -1,6 +1,6 @@
 use Rattle.std.proofs.Common.{sym, subst, List, Contains}
-use Rattle.machine_text.specs.Packed.{Packed}
-use Rattle.leases.proofs.OfferLaws.{one_more, all_in}
+use Rattle.machine_text.specs.Terms.{Packed}
+use Rattle.leases.proofs.FreeLaws.{one_more, all_in}
 use Rattle.leases.proofs.held_leases.free_all.Goals as goal
 
 pub returns-in_err-push-clause-more : goal.returns-in_err-push-clause-more

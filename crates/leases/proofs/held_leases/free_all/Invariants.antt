@@ -1,4 +1,4 @@
-use Rattle.leases.proofs.OfferLaws.{KeepsAll, AreFirstIn}
+use Rattle.leases.proofs.FreeLaws.{KeepsAll, AreFirstIn}
 use Rattle.leases.proofs.held_leases.free_all.Given as goal
 
 abbrev pub invariant-loop-t : goal.invariant-loop-t

@@ -1,5 +1,5 @@
 use Rattle.std.proofs.Common.{refl}
-use Rattle.ledger.specs.Records.{same_table}
+use Rattle.ledger.specs.Terms.{same_table}
 use Rattle.leases.proofs.FreeLaws.{loses_key}
 use Rattle.leases.proofs.live_leases.renew_lease.Goals as goal
 

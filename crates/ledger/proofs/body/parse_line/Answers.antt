@@ -1,6 +1,6 @@
 use Rattle.std.proofs.Common.{sym, ap, ◌∙◌}
-use Rattle.cert.specs.Kinds.{read_as, recorded}
-use Rattle.ledger.proofs.VersionLaws.{line_stands, line_unfit, line_unread}
+use Rattle.cert.specs.Terms.{read_as, recorded}
+use Rattle.ledger.proofs.LedgerTexts.{line_stands, line_unfit, line_unread}
 use Rattle.ledger.proofs.body.parse_line.Goals as goal
 
 pub returns-in-Ok : goal.returns-in-Ok

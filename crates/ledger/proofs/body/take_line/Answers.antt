@@ -1,7 +1,7 @@
 use Rattle.std.proofs.Common.{inl, inr, sym, ap, ◌∙◌}
-use Rattle.cert.specs.Kinds.{recorded}
-use Rattle.ledger.specs.Versions.{ledger_record}
-use Rattle.ledger.specs.declared.format.Format.{Format}
+use Rattle.cert.specs.Terms.{recorded}
+use Rattle.ledger.specs.LedgerText.{ledger_record}
+use Rattle.ledger.specs.declared.header.Format.{Format}
 use Rattle.ledger.proofs.body.take_line.Goals as goal
 
 pub returns-in-Ok-New-clause-gives : goal.returns-in-Ok-New-clause-gives

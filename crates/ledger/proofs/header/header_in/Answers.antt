@@ -1,5 +1,5 @@
 use Rattle.std.proofs.Common.{ℕ, List, subst}
-use Rattle.machine_text.specs.Packed.{Packed}
+use Rattle.machine_text.specs.Terms.{Packed}
 use Rattle.ledger.specs.Loading.{NamesAfter}
 use Rattle.ledger.proofs.HeaderLaws.{named_by_none}
 use Rattle.ledger.proofs.header.header_in.Goals as goal

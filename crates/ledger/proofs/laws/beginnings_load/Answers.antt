@@ -1,4 +1,4 @@
-use Rattle.ledger.proofs.Beginnings.{beginning}
+use Rattle.ledger.proofs.LongestLists.{beginning}
 use Rattle.ledger.proofs.laws.beginnings_load.Goals as goal
 
 pub returns : goal.returns

@@ -1,4 +1,4 @@
-use Rattle.ledger.proofs.Growing.{cut_to_kept}
+use Rattle.ledger.proofs.LedgerTexts.{cut_to_kept}
 use Rattle.ledger.proofs.laws.kept_bytes_load.Goals as goal
 
 pub returns : goal.returns

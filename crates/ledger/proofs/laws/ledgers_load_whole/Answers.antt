@@ -1,4 +1,4 @@
-use Rattle.ledger.proofs.Written.{whole_ledger}
+use Rattle.ledger.proofs.LedgerTexts.{whole_ledger}
 use Rattle.ledger.proofs.laws.ledgers_load_whole.Goals as goal
 
 pub returns : goal.returns

@@ -1,4 +1,4 @@
-use Rattle.ledger.proofs.Longest.{reads_as_one, reads_in_one}
+use Rattle.ledger.proofs.LongestLists.{reads_as_one, reads_in_one}
 use Rattle.ledger.proofs.laws.ledgers_read_as_one.Goals as goal
 
 pub returns-clause-records : goal.returns-clause-records

@@ -1,4 +1,4 @@
-use Rattle.ledger.proofs.VersionLaws.{read_apart}
+use Rattle.ledger.proofs.LedgerTexts.{read_apart}
 use Rattle.ledger.proofs.laws.versions_read_apart.Goals as goal
 
 pub returns : goal.returns

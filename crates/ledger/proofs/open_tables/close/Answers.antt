@@ -1,6 +1,6 @@
 use Rattle.std.proofs.Common.{sym, subst}
 use Rattle.ledger.specs.inside.Waiting.{ClosesTable}
-use Rattle.ledger.specs.declared.waiting.Waiting.{Waiting}
+use Rattle.ledger.specs.declared.places.Waiting.{Waiting}
 use Rattle.ledger.proofs.Sets.{removed}
 use Rattle.ledger.proofs.open_tables.close.Goals as goal
 

@@ -1,7 +1,7 @@
 use Rattle.std.proofs.Common.{sym, ◌∙◌, ap, option_map}
-use Rattle.cert.specs.Kinds.{claim_of}
+use Rattle.cert.specs.Terms.{claim_of}
 use Rattle.ledger.specs.Records.{same_table}
-use Rattle.ledger.proofs.Same.{differ}
+use Rattle.ledger.proofs.Claims.{differ}
 use Rattle.ledger.proofs.open_tables.is_unrecorded.Goals as goal
 
 pub returns-in-Some : goal.returns-in-Some

@@ -1,9 +1,9 @@
 use Rattle.std.proofs.Common.{List, ◌∙◌, refl, sym, subst, rules}
 use Rattle.std.specs.List.{Contains}
-use Rattle.machine_text.specs.Packed.{Packed}
+use Rattle.machine_text.specs.Terms.{Packed}
 use Rattle.ledger.specs.inside.Stored.{records_of}
-use Rattle.ledger.proofs.Apart.{first_member, later_member}
-use Rattle.ledger.proofs.Openers.{children_more, none_at}
+use Rattle.ledger.proofs.HeldLaws.{first_member, later_member}
+use Rattle.ledger.proofs.OpenLaws.{children_more, none_at}
 use Rattle.ledger.proofs.Sets.{brings}
 use Rattle.ledger.proofs.open_tables.open_all.Goals as goal
 

@@ -1,11 +1,10 @@
 use Rattle.std.proofs.Common.{◌≡◌, ◌↔◌, ◌⊎◌}
 use Rattle.std.specs.List.{Contains}
 use Rattle.std.specs.BTreeMap.{ContainsKey}
-use Rattle.machine_text.specs.Packed.{Packed}
-use Rattle.law_tree.specs.Tables.{IsChildTable}
+use Rattle.machine_text.specs.Terms.{Packed, table_cmp}
+use Rattle.law_tree.specs.Terms.{IsChildTable}
 use Rattle.ledger.specs.inside.Stored.{records_of}
-use Rattle.machine_text.specs.Order.{table_cmp}
-use Rattle.ledger.specs.inside.Open.{others, AreChildrenAt, HasUnrecorded}
+use Rattle.ledger.specs.inside.Counting.{others, AreChildrenAt, HasUnrecorded}
 use Rattle.ledger.proofs.open_tables.open_all.Given as goal
 
 -- what is open, and what the children that are left will open, is what will be open; and but for what was opened here, which

@@ -1,11 +1,8 @@
 use Rattle.std.proofs.Common.{subst, Option}
-use Rattle.cert.specs.Claim.{ending_by}
-use Rattle.cert.specs.Certified.{IsPairOf}
-use Rattle.cert.specs.Kinds.{claim_of, recorded}
-use Rattle.machine_text.specs.declared.transition.Pair.{Pair}
+use Rattle.cert.specs.Terms.{ending_by, IsPairOf, claim_of, recorded}
+use Rattle.machine_text.specs.declared.table.Pair.{Pair}
 use Rattle.ledger.specs.inside.Stored.{records_of}
-use Rattle.ledger.proofs.OpenAfter.{pair_halts, new_children, on_ok}
-use Rattle.ledger.proofs.Openers.{none_at}
+use Rattle.ledger.proofs.OpenLaws.{pair_halts, new_children, on_ok, none_at}
 use Rattle.ledger.proofs.open_tables.open_children.Goals as goal
 
 pub returns-in-Some-clause-ok : goal.returns-in-Some-clause-ok

@@ -1,5 +1,5 @@
 use Rattle.std.proofs.Common.{inl}
-use Rattle.text.proofs.Lines.{line_has_newline}
+use Rattle.text.proofs.Cuts.{line_has_newline}
 use Rattle.libbb.proofs.reader.is_enough.Goals as goal
 
 pub returns-in-Some-clause-enough : goal.returns-in-Some-clause-enough

@@ -1,4 +1,4 @@
-use Rattle.libbb.proofs.Gives.{loaded_reports, unloaded_reports}
+use Rattle.libbb.proofs.LoadedTexts.{loaded_reports, unloaded_reports}
 use Rattle.libbb.proofs.tree_answer.report_of.Goals as goal
 
 pub returns-in-Ok-clause-reports : goal.returns-in-Ok-clause-reports

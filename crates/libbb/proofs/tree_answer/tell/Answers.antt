@@ -1,8 +1,8 @@
 use Rattle.std.proofs.Common.{◌≡◌, ◌≤◌, ℕ, subst, sym, ◌∙◌}
-use Rattle.machine_text.specs.Limits.{state_limit}
-use Rattle.law_turing.specs.Halting.{IsRado}
-use Rattle.ledger.specs.Sigma.{IsSigma}
-use Rattle.libbb.proofs.Complete.{best_said, ones_said, whole_root}
+use Rattle.machine_text.specs.Terms.{state_limit}
+use Rattle.law_turing.specs.Terms.{IsRado}
+use Rattle.ledger.specs.Terms.{IsSigma}
+use Rattle.libbb.proofs.LoadedTexts.{best_said, ones_said, whole_root}
 use Rattle.libbb.proofs.tree_answer.tell.Goals as goal
 
 pub returns-clause-rado : goal.returns-clause-rado

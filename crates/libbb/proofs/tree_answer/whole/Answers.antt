@@ -1,7 +1,7 @@
 use Rattle.std.proofs.Common.{◌∙◌, refl, sym, ap, inl, inr}
-use Rattle.machine_text.specs.Packed.{empty_table}
-use Rattle.ledger.specs.Records.{same_table}
-use Rattle.ledger.proofs.Same.{same_is, apart}
+use Rattle.machine_text.specs.Terms.{empty_table}
+use Rattle.ledger.specs.Terms.{same_table}
+use Rattle.ledger.proofs.Claims.{same_is, apart}
 use Rattle.libbb.proofs.tree_answer.whole.Goals as goal
 
 pub returns-then-eq : goal.returns-then-eq

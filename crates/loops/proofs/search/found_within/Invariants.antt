@@ -1,5 +1,5 @@
 use Rattle.std.proofs.Common.{◌≡◌, ◌+◌}
-use Rattle.run.specs.RunState.{OnRun}
+use Rattle.run.specs.Terms.{OnRun}
 use Rattle.loops.proofs.search.found_within.Given as goal
 
 -- the runner stands at the loop's time, which was looked at

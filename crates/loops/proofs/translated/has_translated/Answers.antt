@@ -2,13 +2,11 @@ use Rattle.std.proofs.Common.{◌≡◌, ◌∙◌, ap, subst, ℤ, Option, Some
 use Rattle.std.specs.Int.{w64}
 use Rattle.std.specs.Int.RustNames.{FitsSigned}
 use Rattle.std.proofs.lemmas.Int.{to_z-of_z}
-use Rattle.machine_text.specs.Packed.{Packed, entry_of}
-use Rattle.law_turing.specs.Run.{Config, after}
-use Rattle.run.specs.RunState.{RunState}
-use Rattle.loops.specs.inside.Moment.{Moment}
-use Rattle.loops.specs.inside.Trail.{GoesTo}
-use Rattle.loops.proofs.MomentLaws.{arrived, not_arrived}
-use Rattle.loops.proofs.TestLaws.{not_begun, not_ended}
+use Rattle.machine_text.specs.Terms.{Packed, entry_of}
+use Rattle.law_turing.specs.Terms.{Config, after}
+use Rattle.run.specs.Terms.{RunState}
+use Rattle.loops.specs.inside.{Moment, GoesTo}
+use Rattle.loops.proofs.CycleLaws.{arrived, not_arrived, not_begun, not_ended}
 use Rattle.loops.proofs.translated.has_translated.Goals as goal
 
 pub returns-then-not-branch : goal.returns-then-not-branch

@@ -1,5 +1,5 @@
 use Rattle.std.proofs.Common.{◌+◌, ◌*◌, sym, ◌∙◌, arith}
-use Rattle.machine_text.proofs.Named.{codes_from_written}
+use Rattle.machine_text.proofs.RoundTrip.{codes_from_written}
 use Rattle.machine_text.proofs.Reading.{row_read, no_faults_read, faulty_bar, faulty_entry}
 use Rattle.machine_text.proofs.grammar.codes_named.Goals as goal
 

@@ -1,7 +1,7 @@
 use Rattle.std.proofs.Common.{◌≡◌, ℕ, ◌-◌, ap, ◌∙◌, sym, length, arith}
 use Rattle.std.specs.List.{range_with_len, filter_map}
 use Rattle.machine_text.specs.Text.{fault_at, faults_of}
-use Rattle.machine_text.proofs.Ranges.{found_later, found_here}
+use Rattle.machine_text.proofs.Reading.{found_later, found_here}
 use Rattle.machine_text.proofs.grammar.leftmost_fault.Goals as goal
 
 pub loop-place-init : goal.loop-place-init

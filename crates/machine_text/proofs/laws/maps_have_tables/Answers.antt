@@ -1,5 +1,4 @@
-use Rattle.machine_text.proofs.Tables.{IsTable-tabulated, entry_of-tabulated}
-use Rattle.machine_text.proofs.Filling.{IsMapOf-table, IsMapOf-filled}
+use Rattle.machine_text.proofs.Tables.{IsTable-tabulated, entry_of-tabulated, IsMapOf-table, IsMapOf-filled}
 use Rattle.machine_text.proofs.laws.maps_have_tables.Goals as goal
 
 pub returns-clause-table : goal.returns-clause-table

@@ -1,4 +1,4 @@
-use Rattle.ngram_cps.proofs.Bytes.{lists_are_high}
+use Rattle.ngram_cps.proofs.KindLaws.{lists_are_high}
 use Rattle.ngram_cps.proofs.laws.list_texts_are_high.Goals as goal
 
 pub returns-clause-left : goal.returns-clause-left

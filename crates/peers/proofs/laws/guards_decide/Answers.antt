@@ -1,4 +1,4 @@
-use Rattle.peers.proofs.Guarding.{guards_all}
+use Rattle.peers.proofs.PeerLines.{guards_all}
 use Rattle.peers.proofs.laws.guards_decide.Goals as goal
 
 pub returns : goal.returns

@@ -1,4 +1,4 @@
-use Rattle.peers.proofs.Joining.{said_nothing, goes_on}
+use Rattle.peers.proofs.PeerLines.{said_nothing, goes_on}
 use Rattle.peers.proofs.laws.peers_keep_apart.Goals as goal
 
 pub returns-clause-first : goal.returns-clause-first

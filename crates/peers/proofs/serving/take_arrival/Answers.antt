@@ -1,13 +1,10 @@
 use Rattle.std.proofs.Common.{◌∙◌, refl, ap, [], ◌∷◌, map, append-nil}
 use Rattle.std.specs.Prelude.{Some}
 use Rattle.std.proofs.lemmas.Result.{err_from_is_err_and}
-use Rattle.wire.specs.Fulfilled.{Reply}
-use Rattle.wire.specs.Happening.{Ticked}
-use Rattle.peers.specs.Connections.{Opened, Came, Gone, Passed, Room}
+use Rattle.wire.specs.Terms.{Reply, Ticked}
+use Rattle.peers.specs.Served.{Opened, Came, Gone, Passed, Room, served}
 use Rattle.peers.specs.Peers.{peer_at}
-use Rattle.peers.specs.Served.{served}
-use Rattle.peers.proofs.HeardLines.{heard_whole}
-use Rattle.peers.proofs.LettingGo.{let_go_same}
+use Rattle.peers.proofs.GuardLaws.{heard_whole, let_go_same}
 use Rattle.peers.proofs.serving.take_arrival.Goals as goal
 
 pub returns-in_ok-open-in-Opened-clause-ok : goal.returns-in_ok-open-in-Opened-clause-ok

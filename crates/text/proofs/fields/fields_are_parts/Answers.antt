@@ -1,4 +1,4 @@
-use Rattle.text.proofs.Spaced.{parts_of-spaced, spaced_line, number_is_field}
+use Rattle.text.proofs.DecimalFields.{parts_of-spaced, spaced_line, number_is_field}
 use Rattle.text.proofs.fields.fields_are_parts.Goals as goal
 
 pub returns-clause-parts : goal.returns-clause-parts

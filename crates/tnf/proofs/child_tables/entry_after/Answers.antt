@@ -1,5 +1,5 @@
 use Rattle.std.proofs.Common.{arith}
-use Rattle.tnf.proofs.EntriesLeft.{target_after, turned, ones_after_zeros, none_after_ones}
+use Rattle.tnf.proofs.ChildLists.{target_after, turned, ones_after_zeros, none_after_ones}
 use Rattle.tnf.proofs.child_tables.entry_after.Goals as goal
 
 pub returns-then-e-targets-clause-left : goal.returns-then-e-targets-clause-left

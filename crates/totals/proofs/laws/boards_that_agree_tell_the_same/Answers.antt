@@ -1,4 +1,4 @@
-use Rattle.totals.proofs.Agreeing.{same_status, same_tally, same_champions, same_ones_champions, same_holdouts}
+use Rattle.totals.proofs.ToldRecords.{same_status, same_tally, same_champions, same_ones_champions, same_holdouts}
 use Rattle.totals.proofs.laws.boards_that_agree_tell_the_same.Goals as goal
 
 pub returns-clause-status : goal.returns-clause-status

@@ -1,4 +1,4 @@
-use Rattle.totals.proofs.ManyParts.{all_held, all_marks, all_open, all_complete, any_order}
+use Rattle.totals.proofs.TrunkAndParts.{all_held, all_marks, all_open, all_complete, any_order}
 use Rattle.totals.proofs.laws.many_parts_are_held.Goals as goal
 
 pub returns-clause-held : goal.returns-clause-held

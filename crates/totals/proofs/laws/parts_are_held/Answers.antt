@@ -1,5 +1,5 @@
-use Rattle.totals.proofs.Behind.{both_held, both_open, one_opens, both_marks, one_marks, closed_within}
-use Rattle.totals.proofs.BothSums.{both_tally}
+use Rattle.totals.proofs.TrunkAndParts.{both_held, both_open, one_opens, both_marks, one_marks, closed_within}
+use Rattle.totals.proofs.Wholes.{both_tally}
 use Rattle.totals.proofs.laws.parts_are_held.Goals as goal
 
 pub returns-clause-held : goal.returns-clause-held

@@ -1,4 +1,4 @@
-use Rattle.totals.proofs.Steps.{walk_walked}
+use Rattle.totals.proofs.Walks.{walk_walked}
 use Rattle.totals.proofs.laws.walks_are_put_together.Goals as goal
 
 pub returns : goal.returns

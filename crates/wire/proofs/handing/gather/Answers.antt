@@ -1,11 +1,8 @@
 use Rattle.std.proofs.Common.{sym, subst, List, ℕ, [], ◌∷◌, Ok, Err}
 use Rattle.std.proofs.lemmas.Result.{on_ok_weaker, err_from_is_err_and}
-use Rattle.wire.specs.Fulfilled.{scene}
-use Rattle.wire.specs.inside.Gathering.{HasGathered}
-use Rattle.wire.specs.Happening.{Came}
-use Rattle.wire.specs.Turned.{event_of}
-use Rattle.wire.specs.Lines.{known}
-use Rattle.wire.proofs.Together.{all_faults, taken, untaken, unfulfilled, node_faulted}
+use Rattle.wire.specs.Fulfilled.{scene, Came, event_of, known}
+use Rattle.wire.specs.inside.{HasGathered}
+use Rattle.wire.proofs.Answers.{all_faults, taken, untaken, unfulfilled, node_faulted}
 use Rattle.wire.proofs.handing.gather.Goals as goal
 
 pub returns-in-Ok-clause-ok : goal.returns-in-Ok-clause-ok

@@ -1,14 +1,10 @@
 use Rattle.std.proofs.Common.{◌≡◌, ◌∙◌, refl, sym, subst, ap, List, ℕ, []}
 use Rattle.std.specs.Prelude.{Option, IfErr, IfSome}
 use Rattle.std.proofs.lemmas.Result.{on_ok_weaker, IfErr-weaker}
-use Rattle.text.specs.Lines.{BoundedLine}
-use Rattle.wire.specs.Device.{grown}
-use Rattle.wire.specs.Fulfilled.{kept_text, scene}
-use Rattle.wire.specs.Lines.{Stream}
-use Rattle.wire.specs.Turned.{IsBroken, events_of}
-use Rattle.wire.specs.inside.Gathering.{HasGathered}
-use Rattle.wire.proofs.Replies.{handed_none}
-use Rattle.wire.proofs.Together.{at_scene, gathered_none, gathered_whole, grown_none, lines_left, uncut_text, unfulfilled}
+use Rattle.text.specs.Terms.{BoundedLine}
+use Rattle.wire.specs.Fulfilled.{grown, kept_text, scene, Stream, IsBroken, events_of}
+use Rattle.wire.specs.inside.{HasGathered}
+use Rattle.wire.proofs.Answers.{handed_none, at_scene, gathered_none, gathered_whole, grown_none, lines_left, uncut_text, unfulfilled}
 use Rattle.wire.proofs.handing.hand_all.Goals as goal
 
 pub lines-init : goal.lines-init

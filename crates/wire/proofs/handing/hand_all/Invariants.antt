@@ -1,8 +1,7 @@
 use Rattle.std.proofs.Common.{◌≡◌, length}
 use Rattle.std.specs.Prelude.{IfSome}
-use Rattle.wire.specs.Fulfilled.{kept_text, scene}
-use Rattle.wire.specs.Turned.{events_of}
-use Rattle.wire.specs.inside.Gathering.{HasGathered}
+use Rattle.wire.specs.Fulfilled.{kept_text, scene, events_of}
+use Rattle.wire.specs.inside.{HasGathered}
 use Rattle.wire.proofs.handing.hand_all.Given as goal
 
 -- the answers to the lines that were handed over are fulfilled, or gathered

@@ -1,8 +1,8 @@
 use Rattle.std.proofs.Common.{◌∙◌, List, ℕ, subst}
 use Rattle.std.specs.Prelude.{Option}
 use Rattle.std.proofs.lemmas.Result.{err_from_is_err_and, on_err_weaker}
-use Rattle.wire.specs.Device.{IsBegun}
-use Rattle.wire.proofs.Devices.{begun_first, begun_next}
+use Rattle.wire.specs.Fulfilled.{IsBegun}
+use Rattle.wire.proofs.Answers.{begun_first, begun_next}
 use Rattle.wire.proofs.handing.send_both.Goals as goal
 
 pub returns-in_err-send_all-clause-err : goal.returns-in_err-send_all-clause-err

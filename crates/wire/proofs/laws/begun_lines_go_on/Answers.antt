@@ -1,4 +1,4 @@
-use Rattle.wire.proofs.OneLine.{begun_goes_on}
+use Rattle.wire.proofs.MessageTexts.{begun_goes_on}
 use Rattle.wire.proofs.laws.begun_lines_go_on.Goals as goal
 
 pub returns-clause-lines : goal.returns-clause-lines

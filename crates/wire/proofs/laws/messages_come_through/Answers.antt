@@ -1,4 +1,4 @@
-use Rattle.wire.proofs.OneLine.{frames_come_through, frames_end}
+use Rattle.wire.proofs.MessageTexts.{frames_come_through, frames_end}
 use Rattle.wire.proofs.laws.messages_come_through.Goals as goal
 
 pub returns-clause-lines : goal.returns-clause-lines

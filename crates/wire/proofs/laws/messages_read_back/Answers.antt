@@ -1,4 +1,4 @@
-use Rattle.wire.proofs.ReadBack.{sent_reads_back}
+use Rattle.wire.proofs.MessageTexts.{sent_reads_back}
 use Rattle.wire.proofs.laws.messages_read_back.Goals as goal
 
 pub returns : goal.returns

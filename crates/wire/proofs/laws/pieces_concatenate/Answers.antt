@@ -1,4 +1,4 @@
-use Rattle.wire.proofs.Cutting.{fed_twice}
+use Rattle.wire.proofs.LineLaws.{fed_twice}
 use Rattle.wire.proofs.laws.pieces_concatenate.Goals as goal
 
 pub returns : goal.returns

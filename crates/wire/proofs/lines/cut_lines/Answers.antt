@@ -1,7 +1,6 @@
 use Rattle.std.proofs.Common.{sym, ◌∙◌}
 use Rattle.text.proofs.Cuts.{split_at_cut, split_nowhere}
-use Rattle.wire.proofs.Cutting.{rest_at, rest_nowhere}
-use Rattle.wire.proofs.Feeding.{line_added, all_cut, short_added}
+use Rattle.wire.proofs.LineLaws.{rest_at, rest_nowhere, line_added, all_cut, short_added}
 use Rattle.wire.proofs.lines.cut_lines.Goals as goal
 
 pub lines-preserved : goal.lines-preserved

@@ -1,6 +1,6 @@
 use Rattle.std.proofs.Common.{◌≡◌, ◌++◌, [], map, length, Some}
 use Rattle.std.specs.List.{All}
-use Rattle.wire.specs.Lines.{IsShortLine, known, lines_from, rest_from}
+use Rattle.wire.specs.Fulfilled.{IsShortLine, known, lines_from, rest_from}
 use Rattle.wire.proofs.lines.cut_lines.Given as goal
 
 -- what was cut off and the lines of what is left are together those of the text

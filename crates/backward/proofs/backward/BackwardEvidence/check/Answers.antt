@@ -1,6 +1,6 @@
 use Rattle.std.proofs.Common.{refl, sym, ◌∙◌, arith, ◌≡◌, ◌<◌, length, get_or, rules, inl}
 use Rattle.std.proofs.lemmas.Grind.{get_or_default_zero}
-use Rattle.backward.proofs.Checked.{done_is, done_not, counted_err, counted_ok, too_wide, not_too_wide, stands_if, none_if}
+use Rattle.backward.proofs.PathLaws.{done_is, done_not, counted_err, counted_ok, too_wide, not_too_wide, stands_if, none_if}
 use Rattle.backward.proofs.backward.BackwardEvidence.check.Goals as goal
 
 -- the run doesn't do its steps: so the claim is neither wide nor so

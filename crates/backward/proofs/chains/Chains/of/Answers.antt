@@ -1,6 +1,6 @@
 use Rattle.std.proofs.Common.{◌≡◌, ℕ, ◌+◌, ◌-◌, ◌*◌, ap, subst, ◌∙◌, arith, get_or, set, length-set}
-use Rattle.backward.specs.inside.Chains.{next_of, AreChains}
-use Rattle.backward.proofs.Chained.{target_by, chains_passed, chains_more}
+use Rattle.backward.specs.inside.{next_of, AreChains}
+use Rattle.backward.proofs.Counting.{target_by, chains_passed, chains_more}
 use Rattle.backward.proofs.chains.Chains.of.Goals as goal
 
 pub loop-done-preserved-in_default : goal.loop-done-preserved-in_default

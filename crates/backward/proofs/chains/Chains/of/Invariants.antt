@@ -1,6 +1,6 @@
 use Rattle.std.proofs.Common.{◌≡◌, ◌*◌, ◌-◌, length}
-use Rattle.machine_text.specs.Limits.{state_limit}
-use Rattle.backward.specs.inside.Chains.{AreChains}
+use Rattle.machine_text.specs.Terms.{state_limit}
+use Rattle.backward.specs.inside.{AreChains}
 use Rattle.backward.proofs.chains.Chains.of.Given as goal
 
 -- the places from the last ones on are in their chains

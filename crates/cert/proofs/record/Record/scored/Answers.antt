@@ -1,4 +1,4 @@
-use Rattle.cert.proofs.Scores.{gets_halting}
+use Rattle.cert.proofs.Claims.{gets_halting}
 use Rattle.cert.proofs.record.Record.scored.Goals as goal
 
 pub returns-in_ok-scored-in-Halts : goal.returns-in_ok-scored-in-Halts

@@ -1,5 +1,5 @@
 use Rattle.std.proofs.Common.{rules}
-use Rattle.cmd_dispatch.proofs.Keeping.{written}
+use Rattle.cmd_dispatch.proofs.HostedCommands.{written}
 use Rattle.cmd_dispatch.proofs.host.Host.coord_kept.Goals as goal
 
 pub returns : goal.returns

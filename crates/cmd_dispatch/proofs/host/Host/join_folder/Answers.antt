@@ -1,5 +1,5 @@
-use Rattle.cmd_dispatch.specs.Ends.{Said}
-use Rattle.cmd_dispatch.proofs.Joining.{joined}
+use Rattle.cmd_dispatch.specs.Lines.{Said}
+use Rattle.cmd_dispatch.proofs.HostedCommands.{joined}
 use Rattle.cmd_dispatch.proofs.host.Host.join_folder.Goals as goal
 
 pub returns : goal.returns

@@ -1,7 +1,6 @@
 use Rattle.std.proofs.Common.{rules, refl, ◌≡◌, Some, None, Ok, length}
 use Rattle.std.proofs.lemmas.Result.{err_from_is_err_and}
-use Rattle.cmd_dispatch.proofs.Keeping.{not_begun}
-use Rattle.cmd_dispatch.proofs.Running.{with_workers}
+use Rattle.cmd_dispatch.proofs.HostedCommands.{not_begun, with_workers}
 use Rattle.cmd_dispatch.proofs.host.Host.run.Goals as goal
 
 pub returns-in_err-workers : goal.returns-in_err-workers

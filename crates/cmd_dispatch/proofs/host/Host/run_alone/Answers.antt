@@ -1,5 +1,5 @@
 use Rattle.std.proofs.Common.{ap}
-use Rattle.cmd_dispatch.proofs.Running.{ran_alone}
+use Rattle.cmd_dispatch.proofs.HostedCommands.{ran_alone}
 use Rattle.cmd_dispatch.proofs.host.Host.run_alone.Goals as goal
 
 pub returns : goal.returns

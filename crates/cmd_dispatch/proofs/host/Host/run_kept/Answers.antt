@@ -1,5 +1,5 @@
 use Rattle.std.proofs.Common.{rules}
-use Rattle.cmd_dispatch.proofs.Running.{ran_kept}
+use Rattle.cmd_dispatch.proofs.HostedCommands.{ran_kept}
 use Rattle.cmd_dispatch.proofs.host.Host.run_kept.Goals as goal
 
 pub returns : goal.returns

@@ -1,7 +1,6 @@
 use Rattle.std.proofs.Common.{inl, inr, refl}
 use Rattle.std.proofs.lemmas.Result.{err_from_is_err_and}
-use Rattle.cmd_dispatch.proofs.Keeping.{not_begun}
-use Rattle.cmd_dispatch.proofs.Running.{served}
+use Rattle.cmd_dispatch.proofs.HostedCommands.{not_begun, served}
 use Rattle.cmd_dispatch.proofs.host.Host.serve.Goals as goal
 
 pub returns-in_err-connections : goal.returns-in_err-connections

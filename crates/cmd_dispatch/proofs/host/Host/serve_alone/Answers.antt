@@ -1,5 +1,5 @@
 use Rattle.std.proofs.Common.{ap}
-use Rattle.cmd_dispatch.proofs.Running.{served_alone}
+use Rattle.cmd_dispatch.proofs.HostedCommands.{served_alone}
 use Rattle.cmd_dispatch.proofs.host.Host.serve_alone.Goals as goal
 
 pub returns : goal.returns

@@ -1,5 +1,5 @@
 use Rattle.std.proofs.Common.{rules, inr}
-use Rattle.cmd_dispatch.proofs.Running.{served_kept}
+use Rattle.cmd_dispatch.proofs.HostedCommands.{served_kept}
 use Rattle.cmd_dispatch.proofs.host.Host.serve_kept.Goals as goal
 
 pub returns : goal.returns

@@ -1,8 +1,7 @@
 use Rattle.std.proofs.Common.{ap, inl, refl}
 use Rattle.std.proofs.lemmas.Result.{err_from_is_err_and}
-use Rattle.cmd_dispatch.specs.Ends.{output_of}
-use Rattle.cmd_dispatch.proofs.Keeping.{not_saved}
-use Rattle.cmd_dispatch.proofs.Saving.{found_or_saved, saved}
+use Rattle.cmd_dispatch.specs.Lines.{output_of}
+use Rattle.cmd_dispatch.proofs.HostedCommands.{not_saved, found_or_saved, saved}
 use Rattle.cmd_dispatch.proofs.host.Host.walk.Goals as goal
 
 pub returns-in_err-root : goal.returns-in_err-root

@@ -1,5 +1,5 @@
 use Rattle.std.proofs.Common.{refl}
-use Rattle.cmd_dispatch.proofs.Calling.{worked_between}
+use Rattle.cmd_dispatch.proofs.HostedCommands.{worked_between}
 use Rattle.cmd_dispatch.proofs.host.Host.work_for.Goals as goal
 
 pub returns-in-Some : goal.returns-in-Some

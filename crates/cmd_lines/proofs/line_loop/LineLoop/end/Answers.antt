@@ -1,7 +1,7 @@
 use Rattle.std.proofs.Common.{◌≡◌, true, false, sym, ◌∙◌, subst}
 use Rattle.std.proofs.lemmas.Result.{on_ok_weaker}
-use Rattle.cmd_lines.proofs.Taking.{nothing_begun, last_taken}
-use Rattle.cmd_lines.specs.Taken.{HasTakenLines}
+use Rattle.cmd_lines.proofs.AnsweredLines.{nothing_begun, last_taken}
+use Rattle.cmd_lines.specs.Lines.{HasTakenLines}
 use Rattle.cmd_lines.proofs.line_loop.LineLoop.end.Goals as goal
 
 pub returns-then-is_begun-clause-ok : goal.returns-then-is_begun-clause-ok

@@ -1,8 +1,8 @@
 use Rattle.std.proofs.Common.{◌++◌, inl, inr, refl, sym, subst}
-use Rattle.text.specs.Lines.{BeginsWithLine, IsCut, with_more}
-use Rattle.cmd_lines.specs.Taken.{HasTakenLines, TakesFirst}
-use Rattle.cmd_lines.proofs.Early.{behind_err, first_taken}
-use Rattle.cmd_lines.proofs.Taking.{whole_taken}
+use Rattle.text.specs.Terms.{BeginsWithLine, IsCut, with_more}
+use Rattle.cmd_lines.specs.Lines.{HasTakenLines, TakesFirst}
+use Rattle.cmd_lines.proofs.AnsweredPieces.{behind_err, first_taken}
+use Rattle.cmd_lines.proofs.AnsweredLines.{whole_taken}
 use Rattle.cmd_lines.proofs.line_loop.LineLoop.take.Goals as goal
 
 pub lines-preserved : goal.lines-preserved

@@ -1,5 +1,5 @@
 use Rattle.std.proofs.Common.{length}
-use Rattle.cmd_lines.specs.inside.Taking.{TakesMoreUpTo}
+use Rattle.cmd_lines.specs.inside.{TakesMoreUpTo}
 use Rattle.cmd_lines.proofs.line_loop.LineLoop.take.Given as goal
 
 -- what stands before the rest of the piece is taken

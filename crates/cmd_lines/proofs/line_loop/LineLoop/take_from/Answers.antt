@@ -1,6 +1,6 @@
 use Rattle.std.proofs.Common.{◌-◌, ◌≤◌, take, arith, rules}
 use Rattle.std.proofs.lemmas.Grind.{common_steps}
-use Rattle.cmd_lines.proofs.Taking.{nothing_read, piece_read}
+use Rattle.cmd_lines.proofs.AnsweredLines.{nothing_read, piece_read}
 use Rattle.cmd_lines.proofs.line_loop.LineLoop.take_from.Goals as goal
 
 pub pieces-init : goal.pieces-init

@@ -1,4 +1,4 @@
-use Rattle.cmd_lines.specs.inside.Taking.{HasTakenFrom}
+use Rattle.cmd_lines.specs.inside.{HasTakenFrom}
 use Rattle.cmd_lines.proofs.line_loop.LineLoop.take_from.Given as goal
 
 -- what was read was taken, and the rest of the limit is left

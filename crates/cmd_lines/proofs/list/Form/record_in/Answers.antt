@@ -1,5 +1,5 @@
 use Rattle.std.proofs.Common.{rules, Ok, Err, sym, ap, ◌∙◌}
-use Rattle.cert.specs.Kinds.{recorded, read_as}
+use Rattle.cert.specs.Terms.{recorded, read_as}
 use Rattle.cmd_lines.proofs.Firsts.{found_read}
 use Rattle.cmd_lines.proofs.list.Form.record_in.Goals as goal
 

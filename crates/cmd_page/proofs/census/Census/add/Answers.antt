@@ -1,5 +1,5 @@
 use Rattle.std.proofs.Common.{arith}
-use Rattle.cmd_page.proofs.Counted.{by_entries, by_kind, by_steps, capped_more}
+use Rattle.cmd_page.proofs.PageLaws.{by_entries, by_kind, by_steps, capped_more}
 use Rattle.cmd_page.proofs.census.Census.add.Goals as goal
 
 pub returns : goal.returns

@@ -1,4 +1,4 @@
-use Rattle.cmd_page.proofs.Counted.{by_entries, by_kind, by_steps, none_capped}
+use Rattle.cmd_page.proofs.PageLaws.{by_entries, by_kind, by_steps, none_capped}
 use Rattle.cmd_page.proofs.census.Census.new.Goals as goal
 
 pub returns : goal.returns

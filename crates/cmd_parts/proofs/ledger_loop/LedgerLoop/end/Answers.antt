@@ -1,8 +1,7 @@
 use Rattle.std.proofs.Common.{◌≡◌, ◌++◌, List, ℕ, ap, inl, refl, ◌∙◌}
 use Rattle.std.proofs.lemmas.Result.{IfErr-weaker, on_ok_weaker}
-use Rattle.cmd_parts.proofs.Taking.{last_taken}
-use Rattle.cmd_lines.proofs.Early.{IfErr-from_is_err_and, IfErr-passed}
-use Rattle.cmd_parts.proofs.FirstLedgers.{all_but_last, last_cut}
+use Rattle.cmd_parts.proofs.TakenLedgers.{last_taken, all_but_last, last_cut}
+use Rattle.cmd_lines.proofs.AnsweredPieces.{IfErr-from_is_err_and, IfErr-passed}
 use Rattle.cmd_parts.proofs.ledger_loop.LedgerLoop.end.Goals as goal
 
 pub returns-clause-ok : goal.returns-clause-ok

@@ -1,9 +1,8 @@
 use Rattle.std.proofs.Common.{◌≡◌, ◌++◌, ◌∷◌, [], List, ℕ, ap, inl, refl, sym, ◌∙◌, subst}
-use Rattle.text.specs.Lines.{BeginsWithLine, IsCut}
-use Rattle.cmd_parts.specs.inside.Taking.{HasTaken}
-use Rattle.cmd_parts.proofs.Taking.{rest_taken, whole_line}
-use Rattle.cmd_lines.proofs.Early.{IfErr-from_is_err_and, IfErr-passed}
-use Rattle.cmd_parts.proofs.FirstLedgers.{first_taken, whole_line_taken}
+use Rattle.text.specs.Terms.{BeginsWithLine, IsCut}
+use Rattle.cmd_parts.specs.inside.Joining.{HasTaken}
+use Rattle.cmd_parts.proofs.TakenLedgers.{rest_taken, whole_line, first_taken, whole_line_taken}
+use Rattle.cmd_lines.proofs.AnsweredPieces.{IfErr-from_is_err_and, IfErr-passed}
 use Rattle.cmd_parts.proofs.ledger_loop.LedgerLoop.take.Goals as goal
 
 pub returns-in_default-clause-ok : goal.returns-in_default-clause-ok

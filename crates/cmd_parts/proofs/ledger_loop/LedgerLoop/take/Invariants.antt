@@ -1,5 +1,5 @@
 use Rattle.std.proofs.Common.{length}
-use Rattle.cmd_parts.specs.inside.Taking.{TakesLedgersUpTo}
+use Rattle.cmd_parts.specs.inside.Joining.{TakesLedgersUpTo}
 use Rattle.cmd_parts.proofs.ledger_loop.LedgerLoop.take.Given as goal
 
 -- what stands before the rest of the piece is taken

@@ -1,5 +1,5 @@
 use Rattle.std.proofs.Common.{rules}
-use Rattle.cmd_show.proofs.WholeLines.{keeps_both, line_ended, ok_then}
+use Rattle.cmd_show.proofs.PictureLaws.{keeps_both, line_ended, ok_then}
 use Rattle.cmd_show.proofs.printer.Printer.end_line.Goals as goal
 
 pub returns-then-len-lt-MANY_BYTES-clause-lines : goal.returns-then-len-lt-MANY_BYTES-clause-lines

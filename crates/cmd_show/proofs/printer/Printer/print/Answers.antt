@@ -1,4 +1,4 @@
-use Rattle.cmd_show.proofs.WholeLines.{keeps_both}
+use Rattle.cmd_show.proofs.PictureLaws.{keeps_both}
 use Rattle.cmd_show.proofs.printer.Printer.print.Goals as goal
 
 pub returns-then-eq-clause-lines : goal.returns-then-eq-clause-lines

@@ -1,4 +1,4 @@
-use Rattle.cmd_show.proofs.WholeLines.{keeps_all, keeps_both}
+use Rattle.cmd_show.proofs.PictureLaws.{keeps_all, keeps_both}
 use Rattle.cmd_show.proofs.printer.Printer.print_all.Goals as goal
 
 pub lines-init : goal.lines-init

@@ -1,4 +1,4 @@
-use Rattle.cmd_show.specs.inside.Printing.{KeepsLines}
+use Rattle.cmd_show.specs.inside.{KeepsLines}
 use Rattle.cmd_show.proofs.printer.Printer.print_all.Given as goal
 
 -- whole lines wait, or are written

@@ -1,4 +1,4 @@
-use Rattle.cmd_show.proofs.WholeLines.{keeps_both, ok_then}
+use Rattle.cmd_show.proofs.PictureLaws.{keeps_both, ok_then}
 use Rattle.cmd_show.proofs.printer.Printer.show_rows.Goals as goal
 
 -- the line before a row ends

@@ -1,6 +1,6 @@
 use Rattle.std.proofs.Common.{◌+◌, ◌-◌}
-use Rattle.run.specs.Limits.{run_step_limit}
-use Rattle.cmd_show.specs.inside.Printing.{KeepsLines}
+use Rattle.run.specs.Terms.{run_step_limit}
+use Rattle.cmd_show.specs.inside.{KeepsLines}
 use Rattle.cmd_show.proofs.printer.Printer.show_rows.Given as goal
 
 -- whole lines wait, or are written

@@ -1,5 +1,5 @@
 use Rattle.std.proofs.Common.{◌≡◌, ap, arith}
-use Rattle.run.specs.RunState.{RunState}
+use Rattle.run.specs.Terms.{RunState}
 use Rattle.cmd_show.proofs.rows.Rows.new.Goals as goal
 
 pub invariant_of-result : goal.invariant_of-result

@@ -1,5 +1,5 @@
 use Rattle.std.proofs.Common.{refl}
-use Rattle.far.proofs.WellFormed.{texts_give}
+use Rattle.far.proofs.Written.{texts_give}
 use Rattle.far.proofs.far.Far.states.Goals as goal
 
 pub returns-clause-numbers : goal.returns-clause-numbers

@@ -1,8 +1,8 @@
 use Rattle.std.proofs.Common.{◌≡◌, length}
-use Rattle.machine_text.specs.Packed.{entry_of}
-use Rattle.far.specs.ListedAutomata.{halt_number}
+use Rattle.machine_text.specs.Terms.{entry_of}
+use Rattle.far.specs.ListedTexts.{halt_number}
 use Rattle.far.specs.inside.ListedUnpacked.{numbers_of_unpacked}
-use Rattle.far.specs.inside.ListedSteps.{EachFitsBack}
+use Rattle.far.specs.inside.Steps.{EachFitsBack}
 use Rattle.far.proofs.listed_unpacked.Unpacked.each_fits_back.Given as goal
 
 abbrev pub invariant-loop-f : goal.invariant-loop-f

@@ -1,7 +1,7 @@
 use Rattle.std.proofs.Common.{◌≡◌, false, true, length, subst, refl, rules, arith}
-use Rattle.far.specs.inside.ListedSteps.{BackOverEach}
+use Rattle.far.specs.inside.Steps.{BackOverEach}
 use Rattle.far.specs.inside.ListedUnpacked.{numbers_of_unpacked}
-use Rattle.far.proofs.Transitions.{moves_within, over_each, over_all, over_more}
+use Rattle.far.proofs.Listing.{moves_within, over_each, over_all, over_more}
 use Rattle.far.proofs.listed_unpacked.Unpacked.goes_back.Goals as goal
 
 pub goes_back_over-requires-clause-from : goal.goes_back_over-requires-clause-from

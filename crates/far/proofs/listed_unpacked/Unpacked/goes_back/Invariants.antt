@@ -1,5 +1,5 @@
 use Rattle.far.specs.inside.ListedUnpacked.{numbers_of_unpacked}
-use Rattle.far.specs.inside.ListedSteps.{BackOverEach, AreSeen}
+use Rattle.far.specs.inside.Steps.{BackOverEach, AreSeen}
 use Rattle.far.proofs.listed_unpacked.Unpacked.goes_back.Given as goal
 
 abbrev pub invariant-loop-k : goal.invariant-loop-k

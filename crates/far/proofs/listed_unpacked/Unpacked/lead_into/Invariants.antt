@@ -1,4 +1,4 @@
-use Rattle.far.specs.inside.ListedSteps.{LeadInto}
+use Rattle.far.specs.inside.Steps.{LeadInto}
 use Rattle.far.specs.inside.ListedUnpacked.{numbers_of_unpacked}
 use Rattle.far.proofs.listed_unpacked.Unpacked.lead_into.Given as goal
 

@@ -1,5 +1,5 @@
 use Rattle.std.proofs.Common.{rules}
-use Rattle.far.proofs.Transitions.{lead_more}
+use Rattle.far.proofs.Listing.{lead_more}
 use Rattle.far.proofs.listed_unpacked.Unpacked.lead_into_target.Goals as goal
 
 pub loop-i-preserved : goal.loop-i-preserved

@@ -1,7 +1,7 @@
 use Rattle.std.proofs.Common.{◌+◌, ◌*◌}
-use Rattle.far.specs.ListedAutomata.{edges_at}
+use Rattle.far.specs.ListedTexts.{edges_at}
 use Rattle.far.specs.inside.ListedUnpacked.{numbers_of_unpacked}
-use Rattle.far.specs.inside.ListedSteps.{LeadInto, AreSeen}
+use Rattle.far.specs.inside.Steps.{LeadInto, AreSeen}
 use Rattle.far.proofs.listed_unpacked.Unpacked.lead_into_target.Given as goal
 
 abbrev pub invariant-loop-i : goal.invariant-loop-i

@@ -1,7 +1,7 @@
 use Rattle.std.proofs.Common.{subst, rules}
-use Rattle.far.specs.inside.ListedSteps.{LeadsInto}
+use Rattle.far.specs.inside.Steps.{LeadsInto}
 use Rattle.far.specs.inside.ListedUnpacked.{numbers_of_unpacked}
-use Rattle.far.proofs.Transitions.{seen_more}
+use Rattle.far.proofs.Listing.{seen_more}
 use Rattle.far.proofs.listed_unpacked.Unpacked.leads_into_target.Goals as goal
 
 pub returns-clause-seen : goal.returns-clause-seen

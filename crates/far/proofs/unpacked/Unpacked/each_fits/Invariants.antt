@@ -1,4 +1,4 @@
-use Rattle.machine_text.specs.Packed.{entry_of}
+use Rattle.machine_text.specs.Terms.{entry_of}
 use Rattle.far.specs.inside.Unpacked.{unpacked_of}
 use Rattle.far.specs.inside.Steps.{EachFits}
 use Rattle.far.proofs.unpacked.Unpacked.each_fits.Given as goal

@@ -1,5 +1,5 @@
 use Rattle.far.specs.inside.Steps.{FitsPair}
-use Rattle.machine_text.specs.Packed.{entry_of}
+use Rattle.machine_text.specs.Terms.{entry_of}
 use Rattle.std.proofs.Common.{rules}
 use Rattle.far.proofs.unpacked.Unpacked.fits_pair.Goals as goal
 

@@ -1,6 +1,6 @@
 use Rattle.std.proofs.Common.{◌*◌, subst, rules}
 use Rattle.far.specs.Texts.{IsRows, IsHex}
-use Rattle.far.proofs.WellFormed.{texts_give}
+use Rattle.far.proofs.Written.{texts_give}
 use Rattle.far.proofs.unpacked.Unpacked.of_texts.Goals as goal
 
 pub invariant_of-result : goal.invariant_of-result

@@ -1,7 +1,7 @@
 use Rattle.std.proofs.Common.{refl, ◌∙◌, ap}
-use Rattle.cert.specs.Kinds.{recorded}
-use Rattle.cmd_lines.specs.Taken.{lent}
-use Rattle.find_search.specs.Refusals.{with_number}
+use Rattle.cert.specs.Terms.{recorded}
+use Rattle.cmd_lines.specs.Terms.{lent}
+use Rattle.find_search.specs.Known.{with_number}
 use Rattle.find_search.proofs.Lines.{kept_line, refused_line}
 use Rattle.find_search.proofs.known.KnownLineTaker.take_line.Goals as goal
 

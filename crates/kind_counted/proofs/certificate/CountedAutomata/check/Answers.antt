@@ -1,13 +1,11 @@
 use Rattle.std.proofs.Common.{length}
-use Rattle.machine_text.specs.Packed.{entry_of}
-use Rattle.law_turing.specs.Machine.{Machine}
-use Rattle.law_turing.specs.Halting.{Never}
-use Rattle.law_machines.specs.Counted.{CountedSystem, CountedStand}
+use Rattle.machine_text.specs.Terms.{entry_of}
+use Rattle.law_turing.specs.Terms.{Machine, Never}
+use Rattle.law_machines.specs.Terms.{CountedSystem, CountedStand}
 use Rattle.kind_counted.specs.Certificate.{counted_of}
 use Rattle.kind_counted.specs.inside.Judging.{AllGoOn}
-use Rattle.kind_counted.proofs.LeftLaws.{ok_then}
+use Rattle.kind_counted.proofs.JudgingLaws.{ok_then, stands_from, stands_items}
 use Rattle.law_machines.proofs.CountedLaws.{counted_never}
-use Rattle.kind_counted.proofs.StandingLaws.{stands_from, stands_items}
 use Rattle.kind_counted.proofs.certificate.CountedAutomata.check.Goals as goal
 
 pub returns-clause-stands : goal.returns-clause-stands

@@ -1,6 +1,6 @@
 use Rattle.std.proofs.Common.{◌≤◌, sym, ◌∙◌, arith}
 use Rattle.std.proofs.lemmas.Option.{none-some}
-use Rattle.law_turing.proofs.TableLaws.{table_machine}
+use Rattle.law_turing.proofs.RunLaws.{table_machine}
 use Rattle.kind_counted.proofs.certificate.CountedAutomata.check_item.Goals as goal
 
 pub returns-then-item-states-clause-fails : goal.returns-then-item-states-clause-fails

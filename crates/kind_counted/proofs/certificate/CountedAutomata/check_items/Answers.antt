@@ -1,10 +1,10 @@
 use Rattle.std.proofs.Common.{◌≡◌, ◌<◌, List, length, get_or, subst}
-use Rattle.machine_text.specs.Packed.{entry_of}
-use Rattle.law_turing.specs.Machine.{Machine}
-use Rattle.law_machines.specs.Counted.{CountedSystem}
+use Rattle.machine_text.specs.Terms.{entry_of}
+use Rattle.law_turing.specs.Terms.{Machine}
+use Rattle.law_machines.specs.Terms.{CountedSystem}
 use Rattle.kind_counted.specs.Certificate.{counted_of}
 use Rattle.kind_counted.specs.declared.item.Item.{Item}
-use Rattle.kind_counted.proofs.StandingLaws.{go_on_more}
+use Rattle.kind_counted.proofs.JudgingLaws.{go_on_more}
 use Rattle.kind_counted.proofs.certificate.CountedAutomata.check_items.Goals as goal
 
 pub loop-item-preserved : goal.loop-item-preserved

@@ -1,4 +1,4 @@
-use Rattle.machine_text.specs.Packed.{entry_of}
+use Rattle.machine_text.specs.Terms.{entry_of}
 use Rattle.kind_counted.specs.Certificate.{counted_of}
 use Rattle.kind_counted.specs.inside.Judging.{AllGoOn}
 use Rattle.kind_counted.proofs.certificate.CountedAutomata.check_items.Given as goal

@@ -1,12 +1,10 @@
 use Rattle.std.proofs.Common.{◌-◌, sym, subst}
-use Rattle.law_machines.specs.declared.local.Local.{Local}
-use Rattle.law_machines.specs.Cosets.{Coset, IsMember}
-use Rattle.law_machines.specs.Counted.{CountedSystem, HasCoset, moved_to, Remains, Settled, None_remains}
+use Rattle.law_machines.specs.declared.counted.Local.{Local}
+use Rattle.law_machines.specs.Terms.{Coset, IsMember, CountedSystem, HasCoset, moved_to, Remains, Settled, None_remains}
 use Rattle.kind_counted.specs.Items.{coset_of}
 use Rattle.kind_counted.specs.Certificate.{counted_of}
-use Rattle.kind_counted.specs.inside.Points.{coset_by}
-use Rattle.kind_counted.proofs.LeftLaws.{ok_then}
-use Rattle.kind_counted.proofs.JudgingLaws.{settled_fewer}
+use Rattle.kind_counted.specs.inside.Judging.{coset_by}
+use Rattle.kind_counted.proofs.JudgingLaws.{ok_then, settled_fewer}
 use Rattle.kind_counted.proofs.SettlingLaws.{left_member, none_left, member_left}
 use Rattle.kind_counted.proofs.certificate.CountedAutomata.check_last.Goals as goal
 

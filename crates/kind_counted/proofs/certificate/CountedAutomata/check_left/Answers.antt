@@ -1,13 +1,10 @@
 use Rattle.std.proofs.Common.{◌≡◌, List, true, false, sym, ◌∙◌, subst}
-use Rattle.law_machines.specs.Cosets.{Coset, IsMember}
-use Rattle.law_machines.specs.Counted.{HasCoset, Settled, Negative, Members}
+use Rattle.law_machines.specs.Terms.{Coset, IsMember, HasCoset, Settled, Negative, Members}
 use Rattle.kind_counted.specs.Items.{coset_of}
 use Rattle.kind_counted.specs.Certificate.{counted_of}
-use Rattle.kind_counted.specs.inside.Points.{coset_by, IsNegative, LiesWithin}
+use Rattle.kind_counted.specs.inside.Judging.{coset_by, IsNegative, LiesWithin, IsItemAt}
 use Rattle.kind_counted.specs.declared.item.Item.{Item}
-use Rattle.kind_counted.specs.inside.Judging.{IsItemAt}
-use Rattle.kind_counted.proofs.LeftLaws.{ok_then}
-use Rattle.kind_counted.proofs.JudgingLaws.{has_item, item_has, one_coset, settled_within}
+use Rattle.kind_counted.proofs.JudgingLaws.{ok_then, has_item, item_has, one_coset, settled_within}
 use Rattle.kind_counted.proofs.certificate.CountedAutomata.check_left.Goals as goal
 
 pub returns-then-is_negative-clause-settled : goal.returns-then-is_negative-clause-settled

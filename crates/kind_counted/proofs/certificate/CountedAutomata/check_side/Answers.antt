@@ -1,6 +1,5 @@
 use Rattle.std.proofs.Common.{◌≡◌, ◌<◌, length, subst, arith}
-use Rattle.law_machines.specs.Cosets.{Coset}
-use Rattle.law_machines.specs.Counted.{CountedSystem}
+use Rattle.law_machines.specs.Terms.{Coset, CountedSystem}
 use Rattle.kind_counted.specs.Items.{coset_of}
 use Rattle.kind_counted.specs.Certificate.{counted_of}
 use Rattle.kind_counted.specs.inside.Judging.{AreSettled}

@@ -1,8 +1,7 @@
-use Rattle.kind_counted.specs.Formed.{start_local}
+use Rattle.kind_counted.specs.Items.{start_local, coset_of}
 use Rattle.std.proofs.Common.{◌≡◌, List, sym, subst}
 use Rattle.kind_counted.specs.declared.item.Item.{Item}
-use Rattle.law_machines.specs.Cosets.{zeros, IsMember}
-use Rattle.kind_counted.specs.Items.{coset_of}
+use Rattle.law_machines.specs.Terms.{zeros, IsMember}
 use Rattle.kind_counted.specs.inside.Judging.{IsItemAt}
 use Rattle.kind_counted.proofs.JudgingLaws.{has_item, one_coset}
 use Rattle.kind_counted.proofs.certificate.CountedAutomata.check_start.Goals as goal

@@ -1,9 +1,9 @@
 use Rattle.std.proofs.Common.{◌≡◌, ◌≤◌, ◌-ℤ◌, ◌*ℤ◌, FitsSigned, w64, subst, arith}
 use Rattle.std.specs.Int.RustNames.{unsigned_abs}
 use Rattle.std.proofs.lemmas.Int.{to_z-of_z, fits_signed_from_abs}
-use Rattle.law_machines.specs.Cosets.{less}
+use Rattle.law_machines.specs.Terms.{less}
 use Rattle.kind_counted.specs.Numbers.{point_of}
-use Rattle.kind_counted.proofs.PointLaws.{AreLess, small_fits, less_more, less_all}
+use Rattle.kind_counted.proofs.SettlingLaws.{AreLess, small_fits, less_more, less_all}
 use Rattle.kind_counted.proofs.numbers.Counts.less.Goals as goal
 
 pub loop-x-preserved : goal.loop-x-preserved

@@ -1,9 +1,9 @@
 use Rattle.std.proofs.Common.{◌≡◌, ◌<◌, ◌≤◌, ◌-ℤ◌, ◌*ℤ◌, FitsSigned, w64, sym, ap, subst, arith}
 use Rattle.std.specs.Int.RustNames.{unsigned_abs}
 use Rattle.std.proofs.lemmas.Int.{to_z-of_z, fits_signed_from_abs}
-use Rattle.law_machines.specs.Cosets.{Point, less}
+use Rattle.law_machines.specs.Terms.{Point, less}
 use Rattle.kind_counted.specs.Numbers.{point_of}
-use Rattle.kind_counted.proofs.PointLaws.{small_fits}
+use Rattle.kind_counted.proofs.SettlingLaws.{small_fits}
 use Rattle.kind_counted.proofs.numbers.Counts.lessened.Goals as goal
 
 pub returns-in-Some-clause-lessened : goal.returns-in-Some-clause-lessened

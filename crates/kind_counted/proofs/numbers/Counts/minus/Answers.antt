@@ -1,5 +1,5 @@
 use Rattle.std.proofs.Common.{◌-ℤ◌, ap, ◌∙◌}
-use Rattle.law_machines.specs.Cosets.{Point}
+use Rattle.law_machines.specs.Terms.{Point}
 use Rattle.kind_counted.specs.Numbers.{point_of}
 use Rattle.kind_counted.proofs.Sums.{one-*ℤ}
 use Rattle.kind_counted.proofs.numbers.Counts.minus.Goals as goal

@@ -2,10 +2,10 @@ use Rattle.std.proofs.Common.{◌≡◌, ◌<◌, List, length, get_or, sym, sub
 use Rattle.std.proofs.lemmas.Result.{err_from_is_err_and}
 use Rattle.kind_counted.specs.declared.numbers.Counts.{Counts}
 use Rattle.kind_counted.specs.declared.rows.Row.{Row}
-use Rattle.law_machines.specs.Cosets.{Point, IsSum}
+use Rattle.law_machines.specs.Terms.{Point, IsSum}
 use Rattle.kind_counted.specs.Numbers.{point_of}
 use Rattle.kind_counted.specs.Pivots.{points}
-use Rattle.kind_counted.proofs.LeftLaws.{sums_first, sums_more, not_sums}
+use Rattle.kind_counted.proofs.JudgingLaws.{sums_first, sums_more, not_sums}
 use Rattle.kind_counted.proofs.points.Points.check_rows.Goals as goal
 
 pub loop-row-init : goal.loop-row-init

@@ -1,7 +1,6 @@
 use Rattle.std.proofs.Common.{take}
 use Rattle.kind_counted.specs.Pivots.{points}
-use Rattle.kind_counted.specs.inside.Spans.{listed}
-use Rattle.kind_counted.specs.inside.Points.{AreSumsOf}
+use Rattle.kind_counted.specs.inside.Judging.{listed, AreSumsOf}
 use Rattle.kind_counted.proofs.points.Points.check_rows.Given as goal
 
 abbrev pub invariant-loop-row : goal.invariant-loop-row

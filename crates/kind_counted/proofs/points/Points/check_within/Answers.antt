@@ -1,13 +1,13 @@
 use Rattle.std.proofs.Common.{◌-ℤ◌, List, sym, subst}
 use Rattle.std.proofs.lemmas.Result.{err_from_is_err_and}
 use Rattle.kind_counted.specs.declared.rows.Row.{Row}
-use Rattle.law_machines.specs.Cosets.{Coset, IsSum}
+use Rattle.law_machines.specs.Terms.{Coset, IsSum}
 use Rattle.kind_counted.specs.Items.{coset_of}
 use Rattle.kind_counted.specs.Numbers.{point_of}
 use Rattle.kind_counted.specs.Pivots.{points}
-use Rattle.kind_counted.specs.inside.Points.{coset_by, AreSumsOf, LiesWithin}
+use Rattle.kind_counted.specs.inside.Judging.{coset_by, AreSumsOf, LiesWithin}
 use Rattle.kind_counted.proofs.Sums.{sum_same}
-use Rattle.kind_counted.proofs.LeftLaws.{ok_then, within_from, within_base, within_rows}
+use Rattle.kind_counted.proofs.JudgingLaws.{ok_then, within_from, within_base, within_rows}
 use Rattle.kind_counted.proofs.points.Points.check_within.Goals as goal
 
 pub returns-in_err-sum_to-clause-fails : goal.returns-in_err-sum_to-clause-fails

@@ -1,7 +1,7 @@
 use Rattle.std.proofs.Common.{◌-◌, slice_index, arith}
-use Rattle.law_machines.specs.Cosets.{Coset}
-use Rattle.kind_counted.specs.inside.Points.{coset_by}
-use Rattle.kind_counted.proofs.LeftLaws.{kept_join}
+use Rattle.law_machines.specs.Terms.{Coset}
+use Rattle.kind_counted.specs.inside.Judging.{coset_by}
+use Rattle.kind_counted.proofs.JudgingLaws.{kept_join}
 use Rattle.kind_counted.proofs.points.Points.kept.Goals as goal
 
 pub loop-x-preserved : goal.loop-x-preserved

@@ -1,5 +1,5 @@
 use Rattle.std.proofs.Common.{◌-◌, slice_index}
-use Rattle.kind_counted.specs.inside.Points.{coset_by, AreKeptIn}
+use Rattle.kind_counted.specs.inside.Judging.{coset_by, AreKeptIn}
 use Rattle.kind_counted.proofs.points.Points.kept.Given as goal
 
 abbrev pub invariant-loop-x : goal.invariant-loop-x

@@ -1,7 +1,7 @@
 use Rattle.std.proofs.Common.{true, pos, ◌<ℤ◌, arith}
 use Rattle.std.proofs.lemmas.Int.{ints}
 use Rattle.std.proofs.lemmas.Result.{err_from_is_err_and}
-use Rattle.law_machines.specs.Cosets.{Point}
+use Rattle.law_machines.specs.Terms.{Point}
 use Rattle.kind_counted.specs.Numbers.{point_of}
 use Rattle.kind_counted.proofs.Echelon.{reduced_more, not_reduced}
 use Rattle.kind_counted.proofs.rows.Row.sum_to.Goals as goal

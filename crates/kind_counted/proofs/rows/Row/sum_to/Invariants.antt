@@ -1,5 +1,5 @@
 use Rattle.kind_counted.specs.Numbers.{point_of}
-use Rattle.kind_counted.specs.inside.Rows.{IsReduced}
+use Rattle.kind_counted.specs.inside.Judging.{IsReduced}
 use Rattle.kind_counted.proofs.rows.Row.sum_to.Given as goal
 
 abbrev pub invariant-loop-row : goal.invariant-loop-row

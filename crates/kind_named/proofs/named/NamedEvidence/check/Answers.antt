@@ -1,7 +1,7 @@
 use Rattle.std.proofs.Common.{◌≡◌, inr, refl, subst}
-use Rattle.machine_text.specs.Packed.{entry_of}
-use Rattle.law_turing.specs.Halting.{Never}
-use Rattle.kind_named.specs.Table.{skelet1}
+use Rattle.machine_text.specs.Terms.{entry_of}
+use Rattle.law_turing.specs.Terms.{Never}
+use Rattle.kind_named.specs.Kind.{skelet1}
 use Rattle.kind_named.proofs.named.NamedEvidence.check.Goals as goal
 
 pub returns-in-Ok-true-clause-ok : goal.returns-in-Ok-true-clause-ok

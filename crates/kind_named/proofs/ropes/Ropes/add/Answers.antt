@@ -1,5 +1,5 @@
 use Rattle.std.proofs.Common.{◌<◌, length, subst, sym, ◌∙◌, ap}
-use Rattle.kind_named.specs.inside.Arena.{ropes_of, groups_at}
+use Rattle.kind_named.specs.inside.Tokens.{ropes_of, groups_at}
 use Rattle.kind_named.proofs.ArenaLaws.{added}
 use Rattle.kind_named.proofs.ropes.Ropes.add.Goals as goal
 

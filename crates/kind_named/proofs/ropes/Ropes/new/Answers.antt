@@ -1,5 +1,5 @@
 use Rattle.std.proofs.Common.{subst, sym, ap}
-use Rattle.kind_named.specs.inside.Arena.{ropes_of, IsArena}
+use Rattle.kind_named.specs.inside.Tokens.{ropes_of, IsArena}
 use Rattle.kind_named.proofs.ArenaLaws.{arena_none}
 use Rattle.kind_named.proofs.ropes.Ropes.new.Goals as goal
 

@@ -1,5 +1,5 @@
 use Rattle.kind_rules.specs.Views.{form_in, setting_in}
-use Rattle.kind_rules.proofs.ListLaws.{use_missing}
+use Rattle.kind_rules.proofs.RuleLaws.{use_missing}
 use Rattle.kind_rules.proofs.form.Form.use_earlier.Goals as goal
 
 pub returns-in_default : goal.returns-in_default

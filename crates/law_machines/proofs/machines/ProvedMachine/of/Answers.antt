@@ -1,5 +1,5 @@
 use Rattle.std.proofs.Common.{true, false, sym, ◌∙◌, ap, refl}
-use Rattle.machine_text.specs.Text.{table_of}
+use Rattle.machine_text.specs.Terms.{table_of}
 use Rattle.law_machines.specs.declared.machines.ProvedMachine.TheVariants.{Skelet10}
 use Rattle.law_machines.proofs.Proved.{all_machines, machine_named, never_by_text, first_here, first_later, first_none, tested}
 use Rattle.law_machines.proofs.machines.ProvedMachine.of.Goals as goal

@@ -1,6 +1,6 @@
 use Rattle.std.proofs.Common.{◌≡◌}
 use Rattle.std.proofs.Math.ListN.{drop}
-use Rattle.machine_text.specs.Text.{text_of}
+use Rattle.machine_text.specs.Terms.{text_of}
 use Rattle.law_machines.proofs.Proved.{first_named, machine_of}
 use Rattle.law_machines.proofs.machines.ProvedMachine.of.Given as goal
 

@@ -1,4 +1,4 @@
-use Rattle.lease_core.proofs.Begun.{starts, in_step}
+use Rattle.lease_core.proofs.CoordinatorLedgers.{starts, in_step}
 use Rattle.lease_core.proofs.coordinator.Coordinator.start.Goals as goal
 
 pub returns-clause-starts : goal.returns-clause-starts

@@ -1,4 +1,4 @@
-use Rattle.lease_core.proofs.Begun.{starts_from}
+use Rattle.lease_core.proofs.CoordinatorLedgers.{starts_from}
 use Rattle.lease_core.proofs.coordinator.Coordinator.start_from.Goals as goal
 
 pub returns : goal.returns

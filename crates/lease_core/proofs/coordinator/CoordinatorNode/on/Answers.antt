@@ -1,5 +1,5 @@
-use Rattle.lease_core.proofs.CoordinatorFinals.{coordinator_keeps}
-use Rattle.lease_core.proofs.InStep.{on_step}
+use Rattle.lease_core.proofs.Finals.{coordinator_keeps}
+use Rattle.lease_core.proofs.CoordinatorLedgers.{on_step}
 use Rattle.lease_core.proofs.coordinator.CoordinatorNode.on.Goals as goal
 
 pub returns-clause-final_kept : goal.returns-clause-final_kept

@@ -2,7 +2,7 @@ use Rattle.std.proofs.lemmas.Grind.{common_steps}
 use Rattle.std.proofs.Common.{◌≡◌, [], arith, refl, ◌∙◌, ap}
 use Rattle.std.specs.Vec.{vec_items}
 use Rattle.std.proofs.lemmas.Result.{err_from_is_err_and}
-use Rattle.lease_core.proofs.WorkerDue.{asks_row, grows_asking, grows_due}
+use Rattle.lease_core.proofs.DueRecords.{asks_row, grows_asking, grows_due}
 use Rattle.lease_core.proofs.worker.Worker.answer_tick.Goals as goal
 
 -- answered by name, so that nothing is offered where an edit makes it false

@@ -1,8 +1,8 @@
 use Rattle.std.proofs.Common.{List, sym, subst}
-use Rattle.machine_text.specs.Packed.{Packed}
+use Rattle.machine_text.specs.Terms.{Packed}
 use Rattle.lease_core.specs.WorkerState.{records_on}
-use Rattle.lease_core.specs.inside.Due.{AreFirstAcknowledged}
-use Rattle.lease_core.proofs.WorkerDue.{acknowledged_more}
+use Rattle.lease_core.specs.inside.{AreFirstAcknowledged}
+use Rattle.lease_core.proofs.DueRecords.{acknowledged_more}
 use Rattle.lease_core.proofs.worker.Worker.on_ack.Goals as goal
 
 pub invariant_of-self-2 : goal.invariant_of-self-2

@@ -1,9 +1,9 @@
 use Rattle.std.proofs.Common.{Option, rules, subst}
-use Rattle.cert.specs.Kinds.{owned_recorded}
-use Rattle.ledger.specs.Contents.{Contents}
+use Rattle.cert.specs.Terms.{owned_recorded}
+use Rattle.ledger.specs.Terms.{Contents}
 use Rattle.lease_core.specs.WorkerState.{records_on}
-use Rattle.lease_core.specs.inside.Due.{AreFirstAcknowledged}
-use Rattle.lease_core.proofs.WorkerDue.{made_keeps}
+use Rattle.lease_core.specs.inside.{AreFirstAcknowledged}
+use Rattle.lease_core.proofs.DueRecords.{made_keeps}
 use Rattle.lease_core.proofs.worker.Worker.on_work.Goals as goal
 
 -- answered by name, so that nothing is offered where an edit makes it false

@@ -1,4 +1,4 @@
-use Rattle.lease_core.proofs.WorkerFinals.{worker_keeps}
+use Rattle.lease_core.proofs.Finals.{worker_keeps}
 use Rattle.lease_core.proofs.WorkerLaws.{keeps_step}
 use Rattle.lease_core.proofs.worker.WorkerNode.on.Goals as goal
 

@@ -1,6 +1,6 @@
 use Rattle.std.proofs.Common.{◌∙◌}
-use Rattle.ledger.specs.Records.{same_table}
-use Rattle.ledger.proofs.Loads.{is_the_root}
+use Rattle.ledger.specs.Terms.{same_table}
+use Rattle.ledger.proofs.Claims.{is_the_root}
 use Rattle.leases.proofs.FreeLaws.{dropped}
 use Rattle.leases.proofs.free_tables.FreeTables.drop_first.Goals as goal
 

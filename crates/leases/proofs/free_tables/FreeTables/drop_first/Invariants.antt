@@ -1,5 +1,5 @@
 use Rattle.std.proofs.Common.{length}
-use Rattle.leases.specs.inside.Free.{LosesOnly}
+use Rattle.leases.specs.inside.{LosesOnly}
 use Rattle.leases.proofs.free_tables.FreeTables.drop_first.Given as goal
 
 abbrev pub invariant-loop-first : goal.invariant-loop-first

@@ -1,5 +1,5 @@
 use Rattle.std.proofs.Common.{ap}
-use Rattle.leases.specs.inside.Free.{Free}
+use Rattle.leases.specs.inside.{Free}
 use Rattle.leases.proofs.FreeLaws.{is_first}
 use Rattle.leases.proofs.free_tables.FreeTables.first.Goals as goal
 

@@ -1,5 +1,5 @@
 use Rattle.std.proofs.Common.{ap}
-use Rattle.leases.specs.inside.Free.{Free}
+use Rattle.leases.specs.inside.{Free}
 use Rattle.leases.proofs.FreeLaws.{gains}
 use Rattle.leases.proofs.free_tables.FreeTables.push.Goals as goal
 

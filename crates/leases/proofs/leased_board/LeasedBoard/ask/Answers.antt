@@ -1,12 +1,11 @@
 use Rattle.std.proofs.Common.{◌≡◌, ◌+◌, ◌<◌, refl, sym, ◌∙◌, ap, subst, List, map, length}
 use Rattle.std.proofs.lemmas.List.{length-map}
-use Rattle.machine_text.specs.Packed.{Packed}
-use Rattle.ledger.specs.Records.{same_table}
-use Rattle.leases.specs.Asks.{IsFree}
-use Rattle.leases.specs.inside.Stored.{StoredLease, stored_lease, as_lease, as_leases, without}
-use Rattle.leases.specs.declared.reply.Reply.TheVariants.{Stop, Later, Grant}
-use Rattle.leases.proofs.Asking.{below_next, ended_kept, granted, granted_kept, none_kept, others_hold, own_ends, refused_holds}
-use Rattle.leases.proofs.Ending.{asks_by}
+use Rattle.machine_text.specs.Terms.{Packed}
+use Rattle.ledger.specs.Terms.{same_table}
+use Rattle.leases.specs.Leases.{IsFree}
+use Rattle.leases.specs.inside.{StoredLease, stored_lease, as_lease, as_leases, without}
+use Rattle.leases.specs.declared.held_leases.Reply.TheVariants.{Stop, Later, Grant}
+use Rattle.leases.proofs.Granting.{below_next, ended_kept, granted, granted_kept, none_kept, others_hold, own_ends, refused_holds, asks_by}
 use Rattle.leases.proofs.Moments.{same_not_ahead}
 use Rattle.leases.proofs.leased_board.LeasedBoard.ask.Goals as goal
 

@@ -1,6 +1,6 @@
 use Rattle.std.proofs.Common.{nat_eq, refl, ap, Some}
 use Rattle.leases.specs.Leases.{Leased}
-use Rattle.leases.proofs.Ending.{seen_ended, ended_holds}
+use Rattle.leases.proofs.Granting.{seen_ended, ended_holds}
 use Rattle.leases.proofs.Moments.{without_not_ahead}
 use Rattle.leases.proofs.leased_board.LeasedBoard.end.Goals as goal
 

@@ -1,14 +1,11 @@
 use Rattle.std.proofs.Common.{rules, sym, ap, subst, inr, List, Contains, None, ◌≡◌}
-use Rattle.machine_text.specs.Packed.{Packed}
-use Rattle.cert.specs.Kinds.{recorded}
-use Rattle.ledger.specs.Contents.{Contents}
-use Rattle.ledger.specs.Records.{same_table}
+use Rattle.machine_text.specs.Terms.{Packed}
+use Rattle.cert.specs.Terms.{recorded}
+use Rattle.ledger.specs.Terms.{Contents, same_table}
 use Rattle.ledger.specs.declared.faults.OfferFault.TheVariants.{NoMemory}
-use Rattle.leases.specs.Leases.{Leased, AreLeases, lease_of}
-use Rattle.leases.specs.Offers.{TakesNew, TakesSettled}
-use Rattle.leases.specs.inside.Stored.{as_leases, AreStored}
-use Rattle.leases.proofs.ChildLaws.{Opens, opens_new, opens_settled}
-use Rattle.leases.proofs.OfferLaws.{KeepsAll}
+use Rattle.leases.specs.Leases.{Leased, AreLeases, lease_of, TakesNew, TakesSettled}
+use Rattle.leases.specs.inside.{as_leases, AreStored}
+use Rattle.leases.proofs.FreeLaws.{Opens, opens_new, opens_settled, KeepsAll}
 use Rattle.leases.proofs.Offering.{err_is, GoesOut, same_board, refused_board, holdout_not_open, free_new_leases, free_new_kept, free_new_takes, settled_leases, settled_kept, settled_takes}
 use Rattle.leases.proofs.leased_board.LeasedBoard.offer_free.Goals as goal
 

@@ -1,6 +1,6 @@
 use Rattle.std.proofs.Common.{◌≡◌, sym, ◌∙◌, ap, subst, List, Some, None, map}
 use Rattle.leases.specs.Leases.{Leased, lease_of, came_under, while_live}
-use Rattle.leases.specs.inside.Stored.{StoredLease, as_lease}
+use Rattle.leases.specs.inside.{StoredLease, as_lease}
 use Rattle.leases.proofs.LiveLaws.{without_none}
 use Rattle.leases.proofs.leased_board.LeasedBoard.offer_line.Goals as goal
 

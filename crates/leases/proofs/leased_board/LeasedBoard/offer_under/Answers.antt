@@ -1,16 +1,13 @@
 use Rattle.std.proofs.Common.{◌≡◌, sym, ◌∙◌, ap, subst, true, List, map, Result, Some}
 use Rattle.std.proofs.Math.ListN.{set}
-use Rattle.cert.specs.Kinds.{recorded}
-use Rattle.ledger.specs.Contents.{Contents}
-use Rattle.ledger.specs.Records.{same_table}
-use Rattle.ledger.specs.declared.taken.Taken.{Taken}
+use Rattle.cert.specs.Terms.{recorded}
+use Rattle.ledger.specs.Terms.{Contents, same_table}
+use Rattle.ledger.specs.declared.faults.Taken.{Taken}
 use Rattle.ledger.specs.declared.faults.OfferFault.{OfferFault}
 use Rattle.ledger.specs.declared.faults.OfferFault.TheVariants.{NoMemory}
-use Rattle.leases.specs.Leases.{Lease, Leases, Leased, AreLeases, came_under, is_live, lease_of}
-use Rattle.leases.specs.Offers.{TakesNew, LeasesAfter}
-use Rattle.leases.specs.inside.Stored.{StoredLease, as_lease, as_leases, AreStored}
-use Rattle.leases.specs.inside.Children.{RenewsOne, shown}
-use Rattle.leases.proofs.ChildLaws.{Opens, opens_new}
+use Rattle.leases.specs.Leases.{Lease, Leases, Leased, AreLeases, came_under, is_live, lease_of, TakesNew, LeasesAfter}
+use Rattle.leases.specs.inside.{StoredLease, as_lease, as_leases, AreStored, RenewsOne, shown}
+use Rattle.leases.proofs.FreeLaws.{Opens, opens_new}
 use Rattle.leases.proofs.Offering.{GoesOut, err_is, same_board, refused_board, same_held, holds_shown, seen_shown, while_lives, under_new_leases, under_new_kept, under_new_takes}
 use Rattle.leases.proofs.Moments.{shown_not_ahead, renewed_not_ahead}
 use Rattle.leases.proofs.leased_board.LeasedBoard.offer_under.Goals as goal

@@ -1,12 +1,9 @@
 use Rattle.std.proofs.Common.{◌≡◌, ℕ, sym, not, refl, ◌∙◌, ap, subst, true, List, map, filter, Contains}
 use Rattle.std.proofs.lemmas.Result.{err_from_is_err_and}
 use Rattle.leases.specs.Leases.{Leased, AreLeases, SomeEnds, ended, is_live}
-use Rattle.leases.specs.inside.Stored.{StoredLease, as_lease, as_leases, has_ended, are_numbered, without_each, AreDue, AreAmongFree, AreStored}
-use Rattle.leases.specs.inside.Stored.{AreNotAhead}
-use Rattle.leases.proofs.Asking.{at_moment}
-use Rattle.leases.proofs.Due.{ended_each, due_freed, number_ends}
-use Rattle.leases.proofs.Ending.{seen_ended, ended_holds}
-use Rattle.leases.proofs.Moments.{fewer_not_ahead, later_not_ahead}
+use Rattle.leases.specs.inside.{StoredLease, as_lease, as_leases, has_ended, are_numbered, without_each, AreDue, AreAmongFree, AreStored, AreNotAhead}
+use Rattle.leases.proofs.Granting.{at_moment, seen_ended, ended_holds}
+use Rattle.leases.proofs.Moments.{ended_each, due_freed, number_ends, fewer_not_ahead, later_not_ahead}
 use Rattle.leases.proofs.leased_board.LeasedBoard.tick.Goals as goal
 
 pub invariant_of-self : goal.invariant_of-self

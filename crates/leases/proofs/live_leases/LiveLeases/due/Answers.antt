@@ -1,6 +1,6 @@
 use Rattle.std.proofs.Common.{List, map, sym, ◌∙◌, subst}
-use Rattle.leases.specs.inside.Stored.{AreDue, StoredLease, as_lease, stored_lease}
-use Rattle.leases.proofs.Listing.{none_due}
+use Rattle.leases.specs.inside.{AreDue, StoredLease, as_lease, stored_lease}
+use Rattle.leases.proofs.Moments.{none_due}
 use Rattle.leases.proofs.live_leases.LiveLeases.due.Goals as goal
 use Rattle.leases.proofs.live_leases.LiveLeases.due.Goals.{then-is_due+in_ok-self-inside, else-is_due}
 

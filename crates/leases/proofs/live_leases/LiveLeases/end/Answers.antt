@@ -2,10 +2,9 @@ use Rattle.std.proofs.Common.{◌≡◌, ◌<◌, ℕ, List, Option, Some, lengt
 use Rattle.std.proofs.lemmas.List.{length-map}
 use Rattle.indexmap.specs.IndexMap.{get as number_of}
 use Rattle.indexmap.proofs.SetLemmas.{map-remove}
-use Rattle.leases.specs.inside.Stored.{AreNotBefore, AreOfWorkers, RiseByNumber, StandsAt, StoredLease, stored_lease, without}
-use Rattle.leases.proofs.Listing.{read_at}
+use Rattle.leases.specs.inside.{AreNotBefore, AreOfWorkers, RiseByNumber, StandsAt, StoredLease, stored_lease, without}
+use Rattle.leases.proofs.Moments.{read_at, fewer_not_before}
 use Rattle.leases.proofs.LiveLaws.{missing, removed_is, still_rise, without_none, workers_removed}
-use Rattle.leases.proofs.Moments.{fewer_not_before}
 use Rattle.leases.proofs.live_leases.LiveLeases.end.Goals as goal
 
 pub returns-in_default : goal.returns-in_default

@@ -1,6 +1,6 @@
 use Rattle.std.proofs.Common.{sym, ◌∙◌, ap}
-use Rattle.leases.specs.inside.Stored.{without_each}
-use Rattle.leases.proofs.Due.{next_ended, without_no_more, drop_past}
+use Rattle.leases.specs.inside.{without_each}
+use Rattle.leases.proofs.Moments.{next_ended, without_no_more, drop_past}
 use Rattle.leases.proofs.live_leases.LiveLeases.end_each.Goals as goal
 
 pub loop-number-preserved : goal.loop-number-preserved

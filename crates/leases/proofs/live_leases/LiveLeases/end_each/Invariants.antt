@@ -1,5 +1,5 @@
 use Rattle.std.proofs.Common.{◌≡◌, drop}
-use Rattle.leases.specs.inside.Stored.{without_each}
+use Rattle.leases.specs.inside.{without_each}
 use Rattle.leases.proofs.live_leases.LiveLeases.end_each.Given as goal
 
 abbrev pub invariant-loop-number : goal.invariant-loop-number

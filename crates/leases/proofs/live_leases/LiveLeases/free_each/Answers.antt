@@ -1,4 +1,4 @@
-use Rattle.leases.proofs.Due.{next_freed, all_freed}
+use Rattle.leases.proofs.Moments.{next_freed, all_freed}
 use Rattle.leases.proofs.live_leases.LiveLeases.free_each.Goals as goal
 
 pub loop-number-preserved : goal.loop-number-preserved

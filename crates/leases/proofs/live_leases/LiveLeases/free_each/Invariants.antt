@@ -1,5 +1,5 @@
-use Rattle.leases.proofs.OfferLaws.{KeepsAll}
-use Rattle.leases.proofs.Due.{AreFirstFreed}
+use Rattle.leases.proofs.FreeLaws.{KeepsAll}
+use Rattle.leases.proofs.Moments.{AreFirstFreed}
 use Rattle.leases.proofs.live_leases.LiveLeases.free_each.Given as goal
 
 abbrev pub invariant-loop-number : goal.invariant-loop-number

@@ -1,9 +1,9 @@
 use Rattle.std.proofs.Common.{◌≡◌, ◌<◌, true, length, sym, subst, List, map, Contains, Ok, Err, OnErr, OnOk, IfSome, arith}
 use Rattle.std.proofs.lemmas.List.{length-map}
-use Rattle.machine_text.specs.Packed.{Packed}
+use Rattle.machine_text.specs.Terms.{Packed}
 use Rattle.leases.specs.Leases.{is_live}
-use Rattle.leases.specs.inside.Stored.{StandsAt, StoredLease, stored_lease, as_lease, AreAmongFree, is_numbered}
-use Rattle.leases.proofs.Listing.{read_at}
+use Rattle.leases.specs.inside.{StandsAt, StoredLease, stored_lease, as_lease, AreAmongFree, is_numbered}
+use Rattle.leases.proofs.Moments.{read_at}
 use Rattle.leases.proofs.LiveLaws.{freed_one, freed_none, if_ok, stands_lives}
 use Rattle.leases.proofs.live_leases.LiveLeases.free_tables_of.Goals as goal
 

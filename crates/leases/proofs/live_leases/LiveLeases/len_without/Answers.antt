@@ -1,6 +1,6 @@
 use Rattle.std.proofs.Common.{◌≡◌, ℕ, Option, sym, ◌∙◌, ap, subst, length, ◌-◌}
 use Rattle.std.proofs.lemmas.List.{length-map}
-use Rattle.leases.specs.inside.Stored.{RiseByNumber, stored_lease, without}
+use Rattle.leases.specs.inside.{RiseByNumber, stored_lease, without}
 use Rattle.leases.proofs.LiveLaws.{without_none, length_found, missing, one_less}
 use Rattle.leases.proofs.live_leases.LiveLeases.len_without.Goals as goal
 

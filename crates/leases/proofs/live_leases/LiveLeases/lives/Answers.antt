@@ -1,5 +1,5 @@
 use Rattle.std.proofs.Common.{◌∙◌}
-use Rattle.leases.proofs.Listing.{lives_by}
+use Rattle.leases.proofs.Moments.{lives_by}
 use Rattle.leases.proofs.live_leases.LiveLeases.lives.Goals as goal
 
 pub returns : goal.returns

@@ -3,12 +3,11 @@ use Rattle.std.proofs.Math.ListN.{set}
 use Rattle.std.proofs.Math.Seq.{map-set_same}
 use Rattle.std.proofs.lemmas.List.{length-map, map-set}
 use Rattle.indexmap.specs.IndexMap.{get as number_of}
-use Rattle.machine_text.specs.Packed.{Packed}
+use Rattle.machine_text.specs.Terms.{Packed}
 use Rattle.leases.specs.Limits.{child_limit}
 use Rattle.leases.specs.declared.held_leases.HeldLease.{HeldLease}
-use Rattle.leases.specs.inside.Stored.{AreNotBefore, AreOfWorkers, RiseByNumber, StandsAt, StoredLease, stored_lease, as_lease}
-use Rattle.leases.specs.inside.Children.{HasRoomForChildren, shown}
-use Rattle.leases.proofs.Listing.{kept_by_set, read_at, set_there}
+use Rattle.leases.specs.inside.{AreNotBefore, AreOfWorkers, RiseByNumber, StandsAt, StoredLease, stored_lease, as_lease, HasRoomForChildren, shown}
+use Rattle.leases.proofs.Moments.{kept_by_set, read_at, set_there}
 use Rattle.leases.proofs.LiveLaws.{if_ok, room_none, room_one}
 use Rattle.leases.proofs.live_leases.LiveLeases.make_room.Goals as goal
 

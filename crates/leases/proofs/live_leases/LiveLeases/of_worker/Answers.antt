@@ -1,5 +1,5 @@
 use Rattle.std.proofs.Common.{◌∙◌, subst, List, map}
-use Rattle.leases.specs.inside.Stored.{StoredLease, stored_lease, IsOwn}
+use Rattle.leases.specs.inside.{StoredLease, stored_lease, IsOwn}
 use Rattle.leases.proofs.LiveLaws.{is_own}
 use Rattle.leases.proofs.live_leases.LiveLeases.of_worker.Goals as goal
 

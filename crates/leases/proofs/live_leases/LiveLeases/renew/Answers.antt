@@ -2,9 +2,8 @@ use Rattle.std.proofs.Common.{◌≡◌, ◌<◌, ◌≤◌, List, Contains, get
 use Rattle.std.proofs.Math.ListN.{set}
 use Rattle.std.proofs.lemmas.List.{length-map, map-set}
 use Rattle.indexmap.specs.IndexMap.{get as number_of}
-use Rattle.leases.specs.inside.Stored.{AreNotBefore, AreOfWorkers, RiseByNumber, StandsAt, StoredLease, stored_lease}
-use Rattle.leases.specs.inside.Children.{Renews, RenewsOne}
-use Rattle.leases.proofs.Listing.{kept_by_set, read_at}
+use Rattle.leases.specs.inside.{AreNotBefore, AreOfWorkers, RiseByNumber, StandsAt, StoredLease, stored_lease, Renews, RenewsOne}
+use Rattle.leases.proofs.Moments.{kept_by_set, read_at}
 use Rattle.leases.proofs.live_leases.LiveLeases.renew.Goals as goal
 
 pub renew_lease-requires-clause-room : goal.renew_lease-requires-clause-room

@@ -3,7 +3,7 @@ use Rattle.std.specs.Map.{lookup}
 use Rattle.std.proofs.lemmas.List.{map-append}
 use Rattle.std.proofs.lemmas.List.Elements.{All-filter}
 use Rattle.leases.specs.declared.held_leases.HeldLease.{HeldLease}
-use Rattle.leases.specs.inside.Stored.{AreNotBefore, AreOfWorkers, IsOwn, RiseByNumber, StoredLease, is_numbered, stored_lease, without}
+use Rattle.leases.specs.inside.{AreNotBefore, AreOfWorkers, IsOwn, RiseByNumber, StoredLease, is_numbered, stored_lease, without}
 use Rattle.leases.proofs.LiveLaws.{rise_last, still_rise, workers_replaced}
 use Rattle.leases.proofs.Moments.{fewer_not_before, one_more_not_before}
 use Rattle.leases.proofs.live_leases.LiveLeases.replace.Goals as goal

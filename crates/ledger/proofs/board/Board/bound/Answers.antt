@@ -1,7 +1,6 @@
 use Rattle.std.proofs.Common.{subst}
-use Rattle.ledger.specs.Bounds.{IsBound}
-use Rattle.ledger.proofs.Completeness.{true_marks}
-use Rattle.ledger.proofs.Bounds.{closed_bound, closed_bound_ones}
+use Rattle.ledger.specs.Offers.{IsBound}
+use Rattle.ledger.proofs.Completeness.{true_marks, closed_bound, closed_bound_ones}
 use Rattle.ledger.proofs.board.Board.bound.Goals as goal
 
 pub returns-clause-best : goal.returns-clause-best

@@ -1,5 +1,5 @@
 use Rattle.std.proofs.Common.{refl}
-use Rattle.ledger.proofs.Bounds.{bound_settled, bound_unsettled}
+use Rattle.ledger.proofs.Completeness.{bound_settled, bound_unsettled}
 use Rattle.ledger.proofs.board.Board.bound_by_count.Goals as goal
 
 pub returns-then-is_closed : goal.returns-then-is_closed

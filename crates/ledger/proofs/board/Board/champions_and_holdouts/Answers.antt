@@ -1,7 +1,7 @@
 use Rattle.std.proofs.Common.{subst, ◌∙◌, ap}
 use Rattle.std.specs.Prelude.{filter_map}
 use Rattle.std.specs.Vec.Iter.{into_iter_items}
-use Rattle.ledger.specs.Contents.{Contents, IsBoard}
+use Rattle.ledger.specs.Records.{Contents, IsBoard}
 use Rattle.ledger.specs.inside.Counting.{IsCounted, tables_with, tables_with_ones, undecided_table}
 use Rattle.ledger.proofs.BoardLaws.{all_holdouts, best_champions, best_ones_champions}
 use Rattle.ledger.proofs.board.Board.champions_and_holdouts.Goals as goal

@@ -1,6 +1,6 @@
 use Rattle.std.proofs.Common.{rules, subst}
-use Rattle.law_tree.specs.Closed.{Halting}
-use Rattle.ledger.specs.Contents.{Contents, IsBoard}
+use Rattle.law_tree.specs.Terms.{Halting}
+use Rattle.ledger.specs.Records.{Contents, IsBoard}
 use Rattle.ledger.specs.Tally.{HaltsAfter}
 use Rattle.ledger.proofs.BoardLaws.{marked_in_order}
 use Rattle.ledger.proofs.board.Board.children.Goals as goal

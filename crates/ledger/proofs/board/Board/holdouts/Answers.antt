@@ -1,6 +1,6 @@
 use Rattle.std.proofs.Common.{subst, ◌∙◌, ap}
 use Rattle.std.specs.Vec.Iter.{into_iter_items}
-use Rattle.ledger.specs.Contents.{Contents, IsBoard}
+use Rattle.ledger.specs.Records.{Contents, IsBoard}
 use Rattle.std.specs.Prelude.{filter_map}
 use Rattle.ledger.specs.inside.Counting.{undecided_table}
 use Rattle.ledger.proofs.BoardLaws.{all_holdouts}

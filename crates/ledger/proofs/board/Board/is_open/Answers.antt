@@ -1,7 +1,6 @@
 use Rattle.std.proofs.Common.{IsTrue, ◌↔◌, subst, sym, ◌∙◌}
-use Rattle.law_tree.specs.Closed.{IsOpen}
-use Rattle.ledger.specs.Records.{mark_in}
-use Rattle.ledger.specs.Contents.{Contents}
+use Rattle.law_tree.specs.Terms.{IsOpen}
+use Rattle.ledger.specs.Records.{mark_in, Contents}
 use Rattle.ledger.proofs.board.Board.is_open.Goals as goal
 
 pub returns : goal.returns

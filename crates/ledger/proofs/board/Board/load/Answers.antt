@@ -1,5 +1,5 @@
 use Rattle.std.proofs.Common.{[], inr, subst, ◌∙◌}
-use Rattle.machine_text.specs.Packed.{Packed}
+use Rattle.machine_text.specs.Terms.{Packed}
 use Rattle.ledger.specs.LedgerText.{LoadGives}
 use Rattle.ledger.specs.inside.Taking.{IsHeaded}
 use Rattle.ledger.proofs.board.Board.load.Goals as goal

@@ -1,10 +1,10 @@
 use Rattle.std.proofs.Common.{Ok, Err, refl, sym, ◌∙◌, subst}
 use Rattle.ledger.specs.Records.{same_table}
-use Rattle.machine_text.specs.Packed.{Packed}
-use Rattle.cert.specs.Kinds.{recorded}
+use Rattle.machine_text.specs.Terms.{Packed}
+use Rattle.cert.specs.Terms.{recorded}
 use Rattle.ledger.specs.Offers.{OfferGives}
 use Rattle.ledger.proofs.Completeness.{true_marks}
-use Rattle.ledger.proofs.Loads.{is_other_root, is_the_root}
+use Rattle.ledger.proofs.Claims.{is_other_root, is_the_root}
 use Rattle.ledger.proofs.Merged.{none_so_far, next_certified, one_more, never_refused_here, merged_some, merged_all, so_far_is_final, unchanged_for_memory}
 use Rattle.ledger.proofs.board.Board.merge.Goals as goal
 

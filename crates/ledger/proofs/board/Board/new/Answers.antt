@@ -1,5 +1,5 @@
 use Rattle.std.proofs.Common.{arith}
-use Rattle.ledger.proofs.OpenStart.{starts, board_starts, counted_none, indexed_none}
+use Rattle.ledger.proofs.OpenLaws.{starts, board_starts, counted_none, indexed_none}
 use Rattle.ledger.proofs.board.Board.new.Goals as goal
 
 pub invariant_of-result : goal.invariant_of-result

@@ -1,6 +1,6 @@
 use Rattle.std.proofs.Common.{subst, ◌∙◌, ap}
 use Rattle.std.specs.Vec.Iter.{into_iter_items}
-use Rattle.ledger.specs.Contents.{Contents, IsBoard}
+use Rattle.ledger.specs.Records.{Contents, IsBoard}
 use Rattle.ledger.specs.inside.Counting.{IsCounted, tables_with_ones}
 use Rattle.ledger.proofs.BoardLaws.{best_ones_champions}
 use Rattle.ledger.proofs.board.Board.ones_champions.Goals as goal

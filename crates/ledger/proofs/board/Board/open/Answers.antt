@@ -1,6 +1,6 @@
 use Rattle.std.proofs.Common.{subst}
-use Rattle.ledger.specs.Contents.{IsBoard}
-use Rattle.ledger.specs.inside.Open.{IsOpenMap}
+use Rattle.ledger.specs.Records.{IsBoard}
+use Rattle.ledger.specs.inside.Counting.{IsOpenMap}
 use Rattle.ledger.proofs.BoardLaws.{all_open}
 use Rattle.ledger.proofs.board.Board.open.Goals as goal
 

@@ -1,10 +1,7 @@
 use Rattle.std.proofs.Common.{subst, rules}
-use Rattle.law_tree.specs.Closed.{IsOpen}
-use Rattle.ledger.specs.Records.{mark_in}
-use Rattle.ledger.specs.Held.{IsHoldout}
-use Rattle.ledger.specs.Contents.{Contents, IsBoard}
-use Rattle.ledger.specs.inside.Counting.{is_undecided, IsCounted}
-use Rattle.ledger.specs.inside.Open.{IsOpenMap}
+use Rattle.law_tree.specs.Terms.{IsOpen}
+use Rattle.ledger.specs.Records.{mark_in, IsHoldout, Contents, IsBoard}
+use Rattle.ledger.specs.inside.Counting.{is_undecided, IsCounted, IsOpenMap}
 use Rattle.ledger.proofs.BoardLaws.{open_number, kind_counted, none_of}
 use Rattle.ledger.proofs.Numbers.{holdout_number}
 use Rattle.ledger.proofs.board.Board.standing.Goals as goal

@@ -1,5 +1,5 @@
 use Rattle.std.proofs.Common.{subst}
-use Rattle.ledger.specs.Contents.{IsBoard}
+use Rattle.ledger.specs.Records.{IsBoard}
 use Rattle.ledger.proofs.Completeness.{complete_best, complete_ones, complete_rado, complete_sigma}
 use Rattle.ledger.proofs.board.Board.status.Goals as goal
 

@@ -1,19 +1,16 @@
 use Rattle.std.proofs.Common.{List, Option, sym, ◌∙◌, ap, subst}
-use Rattle.machine_text.specs.Packed.{Packed}
+use Rattle.machine_text.specs.Terms.{Packed}
 use Rattle.kind_evidence.specs.declared.verdicts.Ending.{Ending}
-use Rattle.cert.specs.Claim.{Recorded, ending_by}
-use Rattle.cert.specs.Kinds.{recorded}
-use Rattle.ledger.specs.Records.{same_table}
-use Rattle.ledger.specs.Contents.{Contents, IsBoard}
-use Rattle.ledger.specs.inside.Changing.{AreChanged, CarriesUp}
+use Rattle.cert.specs.Terms.{Recorded, ending_by, recorded}
+use Rattle.ledger.specs.Records.{same_table, Contents, IsBoard}
+use Rattle.ledger.specs.inside.Trees.{AreChanged, CarriesUp}
 use Rattle.ledger.specs.inside.Stored.{records_of}
 use Rattle.ledger.specs.inside.Waiting.{WaitsFor, change_of, put_by}
 use Rattle.ledger.specs.declared.stored_record.StoredRecord.{StoredRecord}
 use Rattle.ledger.specs.declared.tree_count.TreeChange.{TreeChange}
-use Rattle.ledger.proofs.Carried.{IsStored, counts_fit, holdout_there, put_carries, put_of, put_ready, put_records, put_stored, slot_opens_none, takes, waits_in_order}
-use Rattle.ledger.proofs.Indexed.{ready_records}
-use Rattle.ledger.proofs.LentRecord.{as_lent, lent_is, lent_pair}
-use Rattle.ledger.proofs.Taking.{same_map}
+use Rattle.ledger.proofs.OfferedRecords.{IsStored, counts_fit, holdout_there, put_carries, put_of, put_ready, put_records, put_stored, slot_opens_none, takes, waits_in_order, as_lent, lent_is, lent_pair}
+use Rattle.ledger.proofs.TreeIndex.{ready_records}
+use Rattle.ledger.proofs.BoardLaws.{same_map}
 use Rattle.ledger.proofs.board.Board.take.Goals as goal
 
 pub child_count-opened-requires-clause-in_order : goal.child_count-opened-requires-clause-in_order

@@ -1,8 +1,6 @@
 use Rattle.std.proofs.Common.{◌+◌, sym, ◌∙◌, ap, subst}
-use Rattle.ledger.specs.Held.{IsHoldout}
-use Rattle.ledger.specs.Contents.{Contents, IsBoard}
-use Rattle.ledger.specs.inside.Counting.{is_undecided, is_halting, is_never, IsCounted}
-use Rattle.ledger.specs.inside.Open.{IsOpenMap}
+use Rattle.ledger.specs.Records.{IsHoldout, Contents, IsBoard}
+use Rattle.ledger.specs.inside.Counting.{is_undecided, is_halting, is_never, IsCounted, IsOpenMap}
 use Rattle.ledger.specs.Tally.{IsHalting, IsNeverHalting}
 use Rattle.ledger.proofs.Numbers.{holdout_number, halting_number, never_number}
 use Rattle.ledger.proofs.BoardLaws.{open_number, nodes_counted, kind_counted}

@@ -1,8 +1,7 @@
 use Rattle.std.proofs.Common.{◌↔◌, IfSome, IsSome, subst}
-use Rattle.ledger.specs.Records.{claim_in}
-use Rattle.ledger.specs.Contents.{Contents}
+use Rattle.ledger.specs.Records.{claim_in, Contents}
 use Rattle.ledger.specs.inside.Trees.{IsTreeCount}
-use Rattle.ledger.proofs.Ready.{count_found, count_there}
+use Rattle.ledger.proofs.TreeIndex.{count_found, count_there}
 use Rattle.ledger.proofs.board.Board.tree_count.Goals as goal
 
 pub returns-clause-some : goal.returns-clause-some

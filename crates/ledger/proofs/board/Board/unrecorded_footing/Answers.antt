@@ -1,10 +1,9 @@
 use Rattle.std.proofs.Common.{IsSome, inl, refl, sym, subst}
-use Rattle.law_tree.specs.Closed.{IsOpen}
-use Rattle.ledger.specs.Records.{mark_in}
-use Rattle.ledger.specs.Contents.{Contents}
-use Rattle.ledger.specs.inside.Open.{IsOpener}
+use Rattle.law_tree.specs.Terms.{IsOpen}
+use Rattle.ledger.specs.Records.{mark_in, Contents}
+use Rattle.ledger.specs.inside.Counting.{IsOpener}
 use Rattle.ledger.specs.inside.Stored.{records_of}
-use Rattle.ledger.proofs.Openers.{opener_at}
+use Rattle.ledger.proofs.OpenLaws.{opener_at}
 use Rattle.ledger.proofs.board.Board.unrecorded_footing.Goals as goal
 
 pub returns-in-Some : goal.returns-in-Some

@@ -1,8 +1,8 @@
 use Rattle.std.proofs.Common.{List, ℕ, length, drop, ap, sym, ◌∙◌, subst}
 use Rattle.std.proofs.Math.Seq.{drop-append_seam}
 use Rattle.ledger.specs.LedgerText.{ReadsIn, ledger_text}
-use Rattle.ledger.specs.declared.format.Format.TheVariants.{Two}
-use Rattle.ledger.specs.declared.left.Left.TheVariants.{Nothing}
+use Rattle.ledger.specs.declared.header.Format.TheVariants.{Two}
+use Rattle.ledger.specs.declared.loading.Left.TheVariants.{Nothing}
 use Rattle.ledger.proofs.board.Board.write_ledger.Goals as goal
 
 pub returns-in-Ok-clause-whole : goal.returns-in-Ok-clause-whole

@@ -1,5 +1,5 @@
 use Rattle.std.proofs.Common.{ap, subst, sym, ◌∙◌}
-use Rattle.ledger.specs.Contents.{Contents}
+use Rattle.ledger.specs.Records.{Contents}
 use Rattle.ledger.specs.LedgerText.{LineGives}
 use Rattle.ledger.proofs.body.Body.take_begun.Goals as goal
 

@@ -3,10 +3,9 @@ use Rattle.std.specs.Int.{w64}
 use Rattle.std.specs.Int.RustNames.{FitsSigned}
 use Rattle.std.proofs.lemmas.Int.{to_z-of_z}
 use Rattle.std.specs.Prelude.{◌↔◌, IsTrue}
-use Rattle.tape.specs.Places.{SameBeyond}
+use Rattle.tape.specs.Terms.{SameBeyond}
 use Rattle.std.proofs.lemmas.Bool.Decides.{nat_tests}
-use Rattle.loops.proofs.TimeLaws.{near_bound, near_within}
-use Rattle.loops.proofs.TestLaws.{compared, test_passed}
+use Rattle.loops.proofs.CycleLaws.{near_bound, near_within, compared, test_passed}
 use Rattle.loops.proofs.snapshot.Snapshot.is_translated.Goals as goal
 use Rattle.loops.proofs.snapshot.Snapshot.is_translated.Goals.{then-eq, else-eq}
 

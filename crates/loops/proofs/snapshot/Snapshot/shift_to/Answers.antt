@@ -2,7 +2,7 @@ use Rattle.std.proofs.Common.{◌≡◌, arith, rules}
 use Rattle.std.specs.Int.{w64}
 use Rattle.std.specs.Int.RustNames.{FitsSigned}
 use Rattle.std.proofs.lemmas.Int.{to_z-of_z}
-use Rattle.loops.proofs.TimeLaws.{IsNear, near_moment, near_standing, shift_fits, shift_within}
+use Rattle.loops.proofs.CycleLaws.{IsNear, near_moment, near_standing, shift_fits, shift_within}
 use Rattle.loops.proofs.snapshot.Snapshot.shift_to.Goals as goal
 
 pub overflow_sub-result : goal.overflow_sub-result

@@ -1,6 +1,6 @@
 use Rattle.std.proofs.Common.{◌<◌, sym, ap, ◌∙◌, subst}
 use Rattle.machine_text.specs.Packed.{Packed, entry_of}
-use Rattle.machine_text.proofs.Filling.{with_entry-stored, entry_of-with_entry}
+use Rattle.machine_text.proofs.Tables.{with_entry-stored, entry_of-with_entry}
 use Rattle.machine_text.proofs.table.Table.filled.Goals as goal
 
 pub returns-clause-table : goal.returns-clause-table

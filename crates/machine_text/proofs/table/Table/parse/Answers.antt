@@ -1,7 +1,7 @@
 use Rattle.std.proofs.Common.{sym}
 use Rattle.machine_text.specs.Packed.{tabulated}
 use Rattle.machine_text.proofs.Tables.{IsTable-tabulated}
-use Rattle.machine_text.proofs.Named.{table_of-length, table_of-faulty, table_of-clean, length_of_states, IsMapOf-named}
+use Rattle.machine_text.proofs.RoundTrip.{table_of-length, table_of-faulty, table_of-clean, length_of_states, IsMapOf-named}
 use Rattle.machine_text.proofs.table.Table.parse.Goals as goal
 
 pub returns-in_default : goal.returns-in_default

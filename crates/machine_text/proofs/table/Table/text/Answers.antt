@@ -2,7 +2,7 @@ use Rattle.std.proofs.Common.{◌≡◌, ℕ, ◌+◌, ◌*◌, ◌<◌, ap, ◌
 use Rattle.std.proofs.lemmas.List.{get_or_default}
 use Rattle.machine_text.specs.Limits.{state_limit}
 use Rattle.machine_text.specs.Packed.{Packed, coded_entry}
-use Rattle.machine_text.proofs.Written.{row_written, text_written}
+use Rattle.machine_text.proofs.Rows.{row_written, text_written}
 use Rattle.machine_text.proofs.RoundTrip.{table_of-text_of, no_halting_letter}
 use Rattle.machine_text.proofs.table.Table.text.Goals as goal
 

@@ -1,5 +1,5 @@
 use Rattle.std.proofs.Common.{◌*◌}
-use Rattle.machine_text.proofs.Written.{AreWritten}
+use Rattle.machine_text.proofs.Rows.{AreWritten}
 use Rattle.machine_text.proofs.table.Table.text.Given as goal
 
 -- the bars stand, and so do the bytes of the rows before this one

@@ -1,5 +1,5 @@
 use Rattle.std.proofs.Common.{◌∙◌, arith, rules}
-use Rattle.machine_text.proofs.Holes.{count_by-holes}
+use Rattle.machine_text.proofs.Tables.{count_by-holes}
 use Rattle.machine_text.proofs.table.Table.undefined_count.Goals as goal
 
 pub returns-clause-count : goal.returns-clause-count

@@ -1,4 +1,4 @@
-use Rattle.machine_text.proofs.Words.{words_decide}
+use Rattle.machine_text.proofs.Order.{words_decide}
 use Rattle.machine_text.proofs.table.TableOrd.cmp.Goals as goal
 
 pub returns : goal.returns

@@ -1,6 +1,6 @@
-use Rattle.machine_text.specs.Packed.{entry_of}
-use Rattle.ngram_cps.specs.Ngram.{lists_of}
-use Rattle.ngram_cps.specs.inside.Steps.{EachGoesOn}
+use Rattle.machine_text.specs.Terms.{entry_of}
+use Rattle.ngram_cps.specs.Lists.{lists_of}
+use Rattle.ngram_cps.specs.inside.{EachGoesOn}
 use Rattle.ngram_cps.proofs.ngram.Ngram.each_goes_on.Given as goal
 
 abbrev pub invariant-loop-k : goal.invariant-loop-k

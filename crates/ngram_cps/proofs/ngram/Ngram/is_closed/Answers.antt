@@ -1,6 +1,6 @@
 use Rattle.std.proofs.Common.{ℕ, subst, rules}
-use Rattle.ngram_cps.specs.Listing.{IsListing}
-use Rattle.ngram_cps.specs.Ngram.{lists_of}
+use Rattle.ngram_cps.specs.Words.{IsListing}
+use Rattle.ngram_cps.specs.Lists.{lists_of}
 use Rattle.ngram_cps.proofs.Closed.{decides, not_blank}
 use Rattle.ngram_cps.proofs.ngram.Ngram.is_closed.Goals as goal
 

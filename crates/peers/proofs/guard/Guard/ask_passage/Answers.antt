@@ -2,7 +2,7 @@ use Rattle.std.proofs.Common.{◌≡◌, ◌∙◌, List, Some, ap, get_or, sym,
 use Rattle.std.specs.Prelude.{position}
 use Rattle.peers.specs.Guard.{AskerState, GuardState, is_of}
 use Rattle.peers.specs.Passing.{is_idle_at, is_spent}
-use Rattle.peers.proofs.Asking.{asks_idle, asks_spent}
+use Rattle.peers.proofs.Answering.{asks_idle, asks_spent}
 use Rattle.peers.proofs.guard.Guard.ask_passage.Goals as goal
 
 pub returns-else-not-is_idle : goal.returns-else-not-is_idle

@@ -1,8 +1,8 @@
 use Rattle.std.proofs.Common.{arith, ◌≡◌, ◌∙◌, ◌+◌, ◌<◌, List, ap, drop, get_or, length, None}
 use Rattle.std.proofs.lemmas.Result.{err_from_is_err_and}
-use Rattle.wire.specs.Fulfilled.{scene}
+use Rattle.wire.specs.Terms.{scene}
 use Rattle.peers.specs.Guard.{AskerState, GuardState, returned, returned_by}
-use Rattle.peers.proofs.Returning.{broken_more, handed_more, returned_next}
+use Rattle.peers.proofs.Answering.{broken_more, handed_more, returned_next}
 use Rattle.peers.proofs.guard.Guard.give_back_all.Goals as goal
 
 pub askers-preserved : goal.askers-preserved

@@ -1,6 +1,6 @@
 use Rattle.std.proofs.Common.{◌≡◌, ◌≤◌, ◌-◌, drop, length, None}
 use Rattle.std.specs.Prelude.{IfSome}
-use Rattle.wire.specs.Fulfilled.{Handed, scene}
+use Rattle.wire.specs.Terms.{Handed, scene}
 use Rattle.peers.specs.Guard.{returned}
 use Rattle.peers.proofs.guard.Guard.give_back_all.Given as goal
 

@@ -1,7 +1,7 @@
 use Rattle.std.proofs.Common.{◌≡◌, ◌∙◌, Option, Some, ap, subst, sym}
-use Rattle.peers.specs.declared.dismissal.Dismissal.{Dismissal}
+use Rattle.peers.specs.declared.guard.Dismissal.{Dismissal}
 use Rattle.peers.specs.Guard.{GuardState}
-use Rattle.peers.proofs.Asking.{some_is}
+use Rattle.peers.proofs.Answering.{some_is}
 use Rattle.peers.proofs.guard.Guard.passage.Goals as goal
 
 pub returns-then-is_some : goal.returns-then-is_some

@@ -1,5 +1,5 @@
 use Rattle.std.proofs.Common.{List, Ok, refl, subst, ℕ}
-use Rattle.wire.specs.Happening.{Came}
+use Rattle.wire.specs.Terms.{Came}
 use Rattle.peers.specs.Passing.{handed_line}
 use Rattle.peers.proofs.GuardLaws.{line_passes}
 use Rattle.peers.proofs.guarded.GuardedNode.on.Goals as goal

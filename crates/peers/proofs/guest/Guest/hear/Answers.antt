@@ -1,5 +1,5 @@
 use Rattle.std.proofs.Common.{arith, ◌≡◌, ◌++◌, List, ℕ, ap, length, subst, sym, ◌∙◌}
-use Rattle.text.specs.Cut.{cut_at}
+use Rattle.text.specs.Terms.{cut_at}
 use Rattle.peers.specs.Guest.{ShowsWhere, heard, heard_in}
 use Rattle.peers.proofs.Guests.{shows_token}
 use Rattle.peers.proofs.guest.Guest.hear.Goals as goal

@@ -1,10 +1,8 @@
 use Rattle.std.proofs.Common.{◌≡◌, ◌∙◌, Some, ap, subst, sym}
-use Rattle.wire.specs.Fulfilled.{scene}
-use Rattle.wire.specs.Turned.{TakesPiece}
+use Rattle.wire.specs.Terms.{scene, TakesPiece}
 use Rattle.peers.specs.declared.guarded.Guarded.{Guarded}
 use Rattle.peers.specs.Guard.{GuardState}
-use Rattle.peers.specs.Guarded.{StoppedWithin, Through, behind}
-use Rattle.peers.specs.Peers.{PeerState}
+use Rattle.peers.specs.Peers.{StoppedWithin, Through, behind, PeerState}
 use Rattle.peers.specs.Served.{scene_with}
 use Rattle.peers.proofs.peer.Peer.take.Goals as goal
 

@@ -1,8 +1,7 @@
 use Rattle.std.proofs.Common.{◌∙◌, ◌≢◌, List, None, Option, Some, ap, subst}
 use Rattle.std.specs.Prelude.{IfErr}
-use Rattle.wire.specs.declared.turned.TurnFault.TheVariants.{LinkFault}
-use Rattle.wire.specs.Fulfilled.{BrokenOff, scene}
-use Rattle.wire.specs.Happening.{Happening}
+use Rattle.wire.specs.declared.handing.TurnFault.TheVariants.{LinkFault}
+use Rattle.wire.specs.Terms.{BrokenOff, scene, Happening}
 use Rattle.peers.specs.Peers.{PeerState}
 use Rattle.peers.specs.Served.{returned_at}
 use Rattle.peers.proofs.peers.Peers.leave.Goals as goal

@@ -1,10 +1,9 @@
 use Rattle.std.proofs.Common.{◌∙◌, Ok, Err, List, [], sym, subst, ap}
 use Rattle.std.proofs.lemmas.Result.{err_from_is_err_and}
-use Rattle.text.specs.Lines.{BoundedLine}
-use Rattle.wire.specs.Lines.{Stream, known}
-use Rattle.peers.specs.Crew.{hall}
-use Rattle.peers.specs.Hearing.{HearsAll}
-use Rattle.peers.proofs.Offers.{heard_fault, heard_more, heard_none}
+use Rattle.text.specs.Terms.{BoundedLine}
+use Rattle.wire.specs.Terms.{Stream, known}
+use Rattle.peers.specs.Crew.{hall, HearsAll}
+use Rattle.peers.proofs.Cores.{heard_fault, heard_more, heard_none}
 use Rattle.peers.proofs.pool.Pool.hear_all.Goals as goal
 
 pub returns-in_err-hear_line-clause-hears : goal.returns-in_err-hear_line-clause-hears

@@ -1,9 +1,8 @@
 use Rattle.std.proofs.Common.{◌≡◌, List, length}
 use Rattle.std.specs.Prelude.{Result}
-use Rattle.text.specs.Lines.{BoundedLine}
-use Rattle.wire.specs.declared.turned.TurnFault.{TurnFault}
-use Rattle.peers.specs.Crew.{AreInStep, Hall, hall}
-use Rattle.peers.specs.Hearing.{HearsAll}
+use Rattle.text.specs.Terms.{BoundedLine}
+use Rattle.wire.specs.declared.handing.TurnFault.{TurnFault}
+use Rattle.peers.specs.Crew.{AreInStep, Hall, hall, HearsAll}
 use Rattle.peers.proofs.pool.Pool.hear_all.Given as goal
 
 -- whatever becomes of the lines that are left becomes of all

@@ -1,8 +1,7 @@
 use Rattle.std.proofs.Common.{Err}
 use Rattle.std.proofs.lemmas.Result.{err_from_is_err_and}
-use Rattle.wire.specs.Fulfilled.{scene}
-use Rattle.wire.specs.Happening.{seen}
-use Rattle.wire.proofs.Outcomes.{faulted_by}
+use Rattle.wire.specs.Terms.{scene, seen}
+use Rattle.wire.proofs.Answers.{faulted_by}
 use Rattle.peers.proofs.pool_core.Core.hand.Goals as goal
 
 pub returns-in_err-fulfil-clause-err : goal.returns-in_err-fulfil-clause-err

@@ -1,7 +1,7 @@
 use Rattle.std.proofs.Common.{◌≡◌, ◌/◌, ◌<◌, ℕ, length, sym, ◌∙◌, subst, arith}
-use Rattle.machine_text.specs.Packed.{Packed, entry_of}
+use Rattle.machine_text.specs.Terms.{Packed, entry_of}
 use Rattle.tape.specs.declared.window.Window.{Window}
-use Rattle.run.specs.Passages.{IsRight, TellsPassage, window_numbered}
+use Rattle.run.specs.Steps.{IsRight, TellsPassage, window_numbered}
 use Rattle.run.specs.declared.passages.Known.{Known}
 use Rattle.run.specs.declared.passages.Known.TheVariants.{Leaves}
 use Rattle.run.proofs.passages.Passages.through.Goals as goal

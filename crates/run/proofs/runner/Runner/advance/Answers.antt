@@ -1,7 +1,7 @@
 use Rattle.std.proofs.Common.{rules, ◌≤◌, ◌-◌, ◌≡◌, sym, ◌∙◌, ap, arith}
-use Rattle.machine_text.specs.Packed.{entry_of}
-use Rattle.run.specs.RunState.{RunState}
-use Rattle.run.proofs.Sweeping.{may_sweep, stands_swept}
+use Rattle.machine_text.specs.Terms.{entry_of}
+use Rattle.run.specs.Steps.{RunState}
+use Rattle.run.proofs.Standings.{may_sweep, stands_swept}
 use Rattle.run.proofs.runner.Runner.advance.Goals as goal
 
 pub sweep-requires : goal.sweep-requires

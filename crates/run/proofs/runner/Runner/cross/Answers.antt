@@ -1,8 +1,7 @@
 use Rattle.std.proofs.Common.{◌≡◌, ◌≤◌, ◌-◌, ap, sym, ◌∙◌, subst, arith}
-use Rattle.machine_text.specs.Packed.{Packed, entry_of}
-use Rattle.run.specs.Passages.{TellsPassage}
-use Rattle.run.specs.RunState.{RunState}
-use Rattle.run.proofs.Passing.{may_cross, stands_crossed}
+use Rattle.machine_text.specs.Terms.{Packed, entry_of}
+use Rattle.run.specs.Steps.{TellsPassage, RunState}
+use Rattle.run.proofs.Standings.{may_cross, stands_crossed}
 use Rattle.run.proofs.runner.Runner.cross.Goals as goal
 
 pub cross-requires-clause-limit : goal.cross-requires-clause-limit

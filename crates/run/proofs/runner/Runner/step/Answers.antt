@@ -1,7 +1,7 @@
 use Rattle.std.proofs.Common.{◌<◌, sym, ◌∙◌, refl, subst}
-use Rattle.machine_text.specs.Packed.{entry_of}
+use Rattle.machine_text.specs.Terms.{entry_of}
 use Rattle.run.specs.Limits.{run_step_limit}
-use Rattle.run.specs.RunState.{RunState, OnRun}
+use Rattle.run.specs.Steps.{RunState, OnRun}
 use Rattle.run.proofs.Standings.{head_within, stands_next, halts_here, no_step, step_is}
 use Rattle.run.proofs.runner.Runner.step.Goals as goal
 

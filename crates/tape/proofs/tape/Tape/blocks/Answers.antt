@@ -1,8 +1,8 @@
 use Rattle.std.proofs.Common.{refl, subst, arith, ◌-ℤ◌, pos, ◌*◌, ◌+◌, ◌-◌}
 use Rattle.std.proofs.lemmas.Int.{ints}
-use Rattle.law_turing.specs.Tape.{Tape}
+use Rattle.law_turing.specs.Terms.{Tape}
 use Rattle.tape.specs.inside.{IsReached, HasOnesWithin, place_numbered}
-use Rattle.tape.proofs.Places.{HasOnesWithin-stored, IsReached-packed}
+use Rattle.tape.proofs.Halves.{HasOnesWithin-stored, IsReached-packed}
 use Rattle.tape.proofs.tape.Tape.blocks.Goals as goal
 
 pub returns-clause-reached : goal.returns-clause-reached

@@ -1,4 +1,4 @@
-use Rattle.tape.proofs.Moves.{stored-blank}
+use Rattle.tape.proofs.PackedCells.{stored-blank}
 use Rattle.tape.proofs.tape.Tape.clear.Goals as goal
 
 pub returns : goal.returns

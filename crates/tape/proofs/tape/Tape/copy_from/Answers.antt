@@ -1,5 +1,5 @@
 use Rattle.std.proofs.Common.{rules}
-use Rattle.tape.proofs.Moves.{stored-blank, on_err}
+use Rattle.tape.proofs.PackedCells.{stored-blank, on_err}
 use Rattle.tape.proofs.tape.Tape.copy_from.Goals as goal
 
 pub returns-else-is_ok-clause-err : goal.returns-else-is_ok-clause-err

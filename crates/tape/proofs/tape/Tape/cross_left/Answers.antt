@@ -1,10 +1,10 @@
 use Rattle.std.proofs.Common.{◌≡◌, ◌+◌, ◌-◌, ◌*◌, ap, refl, arith}
 use Rattle.std.proofs.lemmas.Int.{ints}
-use Rattle.machine_text.specs.declared.transition.Dir.TheVariants.{L}
-use Rattle.law_turing.specs.Tape.{Tape, moved}
+use Rattle.machine_text.specs.declared.table.Dir.TheVariants.{L}
+use Rattle.law_turing.specs.Terms.{Tape, moved}
 use Rattle.tape.specs.inside.{stored, place_numbered}
-use Rattle.tape.proofs.Moves.{left_edge-nearest}
-use Rattle.tape.proofs.Windows.{crossed_by}
+use Rattle.tape.proofs.PackedCells.{left_edge-nearest}
+use Rattle.tape.proofs.Sweeps.{crossed_by}
 use Rattle.tape.proofs.tape.Tape.cross_left.Goals as goal
 
 pub returns-then-low-gt0-clause-ok : goal.returns-then-low-gt0-clause-ok

@@ -1,10 +1,10 @@
 use Rattle.std.proofs.Common.{◌≡◌, ◌+◌, ◌-◌, ◌*◌, ap, refl, arith}
 use Rattle.std.proofs.lemmas.Int.{ints}
-use Rattle.machine_text.specs.declared.transition.Dir.TheVariants.{R}
-use Rattle.law_turing.specs.Tape.{Tape, moved}
+use Rattle.machine_text.specs.declared.table.Dir.TheVariants.{R}
+use Rattle.law_turing.specs.Terms.{Tape, moved}
 use Rattle.tape.specs.inside.{stored, place_numbered}
-use Rattle.tape.proofs.Moves.{right_edge-nearest}
-use Rattle.tape.proofs.Windows.{crossed_by}
+use Rattle.tape.proofs.PackedCells.{right_edge-nearest}
+use Rattle.tape.proofs.Sweeps.{crossed_by}
 use Rattle.tape.proofs.tape.Tape.cross_right.Goals as goal
 
 pub returns-then-low-le-LAST_BIT-clause-ok : goal.returns-then-low-le-LAST_BIT-clause-ok

@@ -1,5 +1,5 @@
 use Rattle.std.proofs.Common.{rules}
-use Rattle.tape.proofs.Moves.{stored-blank}
+use Rattle.tape.proofs.PackedCells.{stored-blank}
 use Rattle.tape.proofs.tape.Tape.new.Goals as goal
 
 pub returns-clause-tape : goal.returns-clause-tape

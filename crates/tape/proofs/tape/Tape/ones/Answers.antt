@@ -1,8 +1,8 @@
 use Rattle.std.proofs.Common.{sum_by, ap, ◌∙◌, arith}
 use Rattle.std.specs.FinSet as set
-use Rattle.law_turing.specs.Tape.{Tape}
+use Rattle.law_turing.specs.Terms.{Tape}
 use Rattle.tape.specs.inside.{word_ones}
-use Rattle.tape.proofs.WordOnes.{len-stored}
+use Rattle.tape.proofs.PackedCells.{len-stored}
 use Rattle.tape.proofs.tape.Tape.ones.Goals as goal
 
 pub returns : goal.returns

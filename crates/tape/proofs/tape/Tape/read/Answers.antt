@@ -1,6 +1,6 @@
 use Rattle.std.proofs.Common.{◌∙◌, ap, sym}
-use Rattle.law_turing.specs.Tape.{symbol_read}
-use Rattle.tape.proofs.Moves.{symbol_read-stored}
+use Rattle.law_turing.specs.Terms.{symbol_read}
+use Rattle.tape.proofs.PackedCells.{symbol_read-stored}
 use Rattle.tape.proofs.tape.Tape.read.Goals as goal
 
 pub returns : goal.returns

@@ -1,7 +1,7 @@
 use Rattle.std.proofs.Common.{◌≡◌, ◌∙◌, sym, arith, true}
 use Rattle.std.proofs.lemmas.Int.{ints}
 use Rattle.std.proofs.lemmas.Bool.{eqb-true}
-use Rattle.machine_text.specs.declared.transition.Dir.TheVariants.{R}
+use Rattle.machine_text.specs.declared.table.Dir.TheVariants.{R}
 use Rattle.tape.proofs.Halves.{same_tape-halves, SameBeyond-itself}
 use Rattle.tape.proofs.tape.Tape.same.Goals.{then-head, else-head}
 use Rattle.tape.proofs.tape.Tape.same.Goals as goal

@@ -1,9 +1,9 @@
 use Rattle.std.proofs.Common.{◌⊎◌, ◌≢◌, ◌≡◌, ℕ, ◌<◌, subst, ap, sym, ◌∙◌, arith}
 use Rattle.std.specs.Int.{bit_at}
-use Rattle.machine_text.specs.declared.transition.Dir.TheVariants.{L}
-use Rattle.law_turing.specs.Tape.{Tape, symbol_read}
+use Rattle.machine_text.specs.declared.table.Dir.TheVariants.{L}
+use Rattle.law_turing.specs.Terms.{Tape, symbol_read}
 use Rattle.tape.specs.inside.{bit_ahead, HasCells, HasAllCells}
-use Rattle.tape.specs.Sweeps.{swept, EndsSweep}
+use Rattle.tape.specs.Cells.{swept, EndsSweep}
 use Rattle.tape.proofs.Sweeps.{IsSweptWord, alike_ahead, sweep_ends, lesser, left_swept, left_swept-edge}
 use Rattle.tape.proofs.tape.Tape.sweep_left.Goals as goal
 use Rattle.tape.proofs.tape.Tape.sweep_left.Goals.{then-count-self, else-count-self+in_ok-self-inside}

@@ -1,9 +1,9 @@
 use Rattle.std.proofs.Common.{◌⊎◌, ◌≢◌, refl, ◌≡◌, ℕ, ◌<◌, subst, sym, ap, ◌∙◌, arith}
 use Rattle.std.specs.Int.{bit_at}
-use Rattle.machine_text.specs.declared.transition.Dir.TheVariants.{R}
-use Rattle.law_turing.specs.Tape.{Tape, symbol_read}
+use Rattle.machine_text.specs.declared.table.Dir.TheVariants.{R}
+use Rattle.law_turing.specs.Terms.{Tape, symbol_read}
 use Rattle.tape.specs.inside.{bit_ahead, HasCells, HasAllCells}
-use Rattle.tape.specs.Sweeps.{swept, EndsSweep}
+use Rattle.tape.specs.Cells.{swept, EndsSweep}
 use Rattle.tape.proofs.Sweeps.{IsSweptWord, alike_ahead, sweep_ends, lesser, right_swept, right_swept-edge}
 use Rattle.tape.proofs.tape.Tape.sweep_right.Goals as goal
 use Rattle.tape.proofs.tape.Tape.sweep_right.Goals.{then-self-count-le-LAST_BIT, else-self-count-le-LAST_BIT+in_ok-self-inside}

@@ -1,8 +1,8 @@
 use Rattle.std.proofs.Common.{◌+◌, ◌-◌, ◌*◌, ◌/◌, ◌%◌, ◌-ℤ◌, pos, subst, arith}
 use Rattle.std.proofs.lemmas.Int.{ints}
-use Rattle.law_turing.specs.Tape.{Tape}
-use Rattle.tape.specs.Windows.{HoldsCells, IsInWindow}
-use Rattle.tape.proofs.Windows.{window-stored}
+use Rattle.law_turing.specs.Terms.{Tape}
+use Rattle.tape.specs.Cells.{HoldsCells, IsInWindow}
+use Rattle.tape.proofs.Sweeps.{window-stored}
 use Rattle.tape.proofs.tape.Tape.window.Goals as goal
 
 pub returns-clause-cells : goal.returns-clause-cells

@@ -1,9 +1,9 @@
 use Rattle.std.proofs.Common.{◌*◌, ◌-◌, subst, ℕ, List, refl}
 use Rattle.std.proofs.lemmas.Cmp.{ranked}
-use Rattle.law_turing.specs.Tape.{Tape}
-use Rattle.tape.specs.Word.{Holds}
+use Rattle.law_turing.specs.Terms.{Tape}
+use Rattle.tape.specs.Cells.{Holds}
 use Rattle.tape.specs.inside.{place_numbered}
-use Rattle.tape.proofs.Places.{IsAtDistance, word_left, word_here, word_right}
+use Rattle.tape.proofs.Halves.{IsAtDistance, word_left, word_here, word_right}
 use Rattle.tape.proofs.tape.Tape.word_at.Goals as goal
 
 pub returns-in-Less : goal.returns-in-Less

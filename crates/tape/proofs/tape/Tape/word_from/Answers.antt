@@ -1,4 +1,4 @@
-use Rattle.tape.proofs.Places.{Holds-joined}
+use Rattle.tape.proofs.Halves.{Holds-joined}
 use Rattle.tape.proofs.tape.Tape.word_from.Goals as goal
 
 pub returns-else-bit-eq0 : goal.returns-else-bit-eq0

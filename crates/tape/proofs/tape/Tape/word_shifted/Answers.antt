@@ -2,9 +2,9 @@ use Rattle.std.proofs.Common.{◌+ℤ◌, pos, ◌^◌, refl, subst, arith, inl,
 use Rattle.std.specs.Int.{w64}
 use Rattle.std.specs.Int.RustNames.{FitsSigned}
 use Rattle.std.proofs.lemmas.Int.{ints, to_z-of_z, by_lt_z}
-use Rattle.law_turing.specs.Tape.{Tape}
+use Rattle.law_turing.specs.Terms.{Tape}
 use Rattle.tape.specs.inside.{IsReached, place_numbered}
-use Rattle.tape.proofs.Places.{HasOnesWithin-stored, IsReached-packed, Holds-far}
+use Rattle.tape.proofs.Halves.{HasOnesWithin-stored, IsReached-packed, Holds-far}
 use Rattle.tape.proofs.tape.Tape.word_shifted.Goals as goal
 
 pub returns-in-None : goal.returns-in-None

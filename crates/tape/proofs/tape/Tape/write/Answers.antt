@@ -1,6 +1,6 @@
 use Rattle.std.proofs.Common.{◌∙◌, ap, sym}
-use Rattle.law_turing.specs.Tape.{Tape, written}
-use Rattle.tape.proofs.Moves.{written-stored}
+use Rattle.law_turing.specs.Terms.{Tape, written}
+use Rattle.tape.proofs.PackedCells.{written-stored}
 use Rattle.tape.proofs.tape.Tape.write.Goals as goal
 
 pub returns : goal.returns

@@ -1,8 +1,8 @@
 use Rattle.std.proofs.Common.{◌≡◌, ◌∙◌, ap, sym, arith, rules}
-use Rattle.machine_text.specs.declared.transition.Dir.TheVariants.{L}
-use Rattle.law_turing.specs.Tape.{Tape, written, moved}
+use Rattle.machine_text.specs.declared.table.Dir.TheVariants.{L}
+use Rattle.law_turing.specs.Terms.{Tape, written, moved}
 use Rattle.tape.specs.inside.{stored}
-use Rattle.tape.proofs.Moves.{written-stored, left_inside, left_edge-nearest}
+use Rattle.tape.proofs.PackedCells.{written-stored, left_inside, left_edge-nearest}
 use Rattle.tape.proofs.tape.Tape.write_left.Goals as goal
 
 pub returns-then-self-gt0-clause-ok : goal.returns-then-self-gt0-clause-ok

@@ -1,8 +1,8 @@
 use Rattle.std.proofs.Common.{◌≡◌, ◌∙◌, ap, sym, arith, refl}
-use Rattle.machine_text.specs.declared.transition.Dir.TheVariants.{R}
-use Rattle.law_turing.specs.Tape.{Tape, written, moved}
+use Rattle.machine_text.specs.declared.table.Dir.TheVariants.{R}
+use Rattle.law_turing.specs.Terms.{Tape, written, moved}
 use Rattle.tape.specs.inside.{stored}
-use Rattle.tape.proofs.Moves.{written-stored, right_inside, right_edge-nearest}
+use Rattle.tape.proofs.PackedCells.{written-stored, right_inside, right_edge-nearest}
 use Rattle.tape.proofs.tape.Tape.write_right.Goals as goal
 
 pub returns-then-self-lt-LAST_BIT-clause-ok : goal.returns-then-self-lt-LAST_BIT-clause-ok

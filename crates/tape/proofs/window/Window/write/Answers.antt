@@ -1,7 +1,7 @@
 use Rattle.std.proofs.Common.{◌∙◌, ap, sym}
 use Rattle.std.specs.Int.{w16}
 use Rattle.std.proofs.lemmas.Nat.Bits.{bit_at_set_same, bit_at_set_other, bit_at_clear_same, bit_at_clear_other}
-use Rattle.tape.specs.Word.{bit_symbol}
+use Rattle.tape.specs.Cells.{bit_symbol}
 use Rattle.tape.proofs.window.Window.write.Goals as goal
 
 pub returns-in-Zero-clause-here : goal.returns-in-Zero-clause-here

@@ -3,19 +3,14 @@ use Rattle.std.specs.List.{Contains, AllPairs}
 use Rattle.std.specs.Ordering.{nat_cmp}
 use Rattle.std.specs.declared.cmp.Ordering.TheVariants.{Less}
 use Rattle.std.specs.Cmp.Lexicographic.{slice_cmp}
-use Rattle.machine_text.specs.Text.{text_of}
+use Rattle.machine_text.specs.Terms.{text_of, entry_of}
 use Prim.Native.Nat.{min}
-use Rattle.machine_text.specs.Packed.{entry_of}
-use Rattle.machine_text.specs.declared.transition.Sym.TheVariants.{Zero}
-use Rattle.machine_text.specs.declared.transition.Dir.TheVariants.{L, R}
-use Rattle.law_tree.specs.Used.{used_count}
-use Rattle.law_tree.specs.Tables.{children_at}
+use Rattle.machine_text.specs.declared.table.Sym.TheVariants.{Zero}
+use Rattle.machine_text.specs.declared.table.Dir.TheVariants.{L, R}
+use Rattle.law_tree.specs.Terms.{used_count, children_at}
 use Rattle.tnf.specs.Children.{IsChildAt}
-use Rattle.tnf.proofs.EntriesLeft.{to}
-use Rattle.law_tree.proofs.ChildOrder.{children_rise}
-use Rattle.law_tree.proofs.ChildCount.{children_bound}
-use Rattle.tnf.proofs.Members.{children_members}
-use Rattle.tnf.proofs.FirstChildren.{by_parts, empty_children, filled_children, without_children}
+use Rattle.tnf.proofs.ChildLists.{to, children_members, by_parts, empty_children, filled_children, without_children}
+use Rattle.law_tree.proofs.ChildTables.{children_rise, children_bound}
 use Rattle.tnf.proofs.child_tables.Children.of.Goals as goal
 use Rattle.tnf.proofs.child_tables.Children.of.Goals.{then-undefined-states, else-undefined-states, then-undefined-lt2, else-undefined-lt2}
 

@@ -1,6 +1,6 @@
 use Rattle.std.proofs.Common.{◌≡◌, [], length, sym, ◌∙◌, ap, subst, arith}
 use Rattle.std.specs.Iterator.{YieldsFirst}
-use Rattle.tnf.proofs.EntriesLeft.{first_left, no_tables_left}
+use Rattle.tnf.proofs.ChildLists.{first_left, no_tables_left}
 use Rattle.tnf.proofs.child_tables.ChildrenIterator.next.Goals as goal
 
 pub returns-clause-steps : goal.returns-clause-steps

@@ -1,7 +1,7 @@
 use Rattle.std.proofs.Common.{sym, subst}
-use Rattle.ledger.specs.declared.tally.Tally.{Tally}
-use Rattle.totals.specs.inside.Sums.{TalliesFit}
-use Rattle.totals.proofs.Fitting.{one_fits}
+use Rattle.ledger.specs.declared.counts.Tally.{Tally}
+use Rattle.totals.specs.inside.{TalliesFit}
+use Rattle.totals.proofs.Wholes.{one_fits}
 use Rattle.totals.proofs.sums.Sums.add_one.Goals as goal
 
 pub with_part-self-requires-clause-fit : goal.with_part-self-requires-clause-fit

@@ -1,9 +1,9 @@
 use Rattle.std.proofs.Common.{subst, List}
 use Rattle.std.specs.List.Sorted.{IsPermutation}
 use Rattle.std.specs.Vec.Iter.{into_iter_items}
-use Rattle.machine_text.specs.Packed.{Packed}
+use Rattle.machine_text.specs.Terms.{Packed}
 use Rattle.totals.specs.Totals.{totals_of}
-use Rattle.totals.proofs.Told.{sorted_champions, sorted_ones_champions, sorted_holdouts}
+use Rattle.totals.proofs.ToldRecords.{sorted_champions, sorted_ones_champions, sorted_holdouts}
 use Rattle.totals.proofs.sums.Sums.champions_and_holdouts.Goals as goal
 
 pub returns-clause-champions : goal.returns-clause-champions

@@ -1,5 +1,5 @@
 use Rattle.std.specs.Vec.Iter.{into_iter_items}
-use Rattle.totals.proofs.Told.{board_totals}
+use Rattle.totals.proofs.ToldRecords.{board_totals}
 use Rattle.totals.proofs.sums.Sums.of.Goals as goal
 
 pub returns : goal.returns

@@ -1,5 +1,5 @@
 use Rattle.totals.specs.Totals.{totals_of}
-use Rattle.totals.proofs.Stands.{totals_best, totals_ones, totals_rado, totals_sigma}
+use Rattle.totals.proofs.ToldRecords.{totals_best, totals_ones, totals_rado, totals_sigma}
 use Rattle.totals.proofs.sums.Sums.status.Goals as goal
 
 pub returns-clause-best : goal.returns-clause-best

@@ -1,6 +1,5 @@
 use Rattle.std.proofs.Common.{◌≡◌, sym, ap, subst}
-use Rattle.totals.specs.Totals.{AreTotals, totals_of}
-use Rattle.totals.specs.Walk.{Walked}
+use Rattle.totals.specs.Totals.{AreTotals, totals_of, Walked}
 use Rattle.totals.proofs.walk.Walk.champions_and_holdouts.Goals as goal
 
 pub returns-clause-champions : goal.returns-clause-champions

@@ -1,7 +1,6 @@
 use Rattle.std.proofs.Common.{◌≡◌, sym, ap, subst}
-use Rattle.totals.specs.Totals.{AreTotals, totals_of}
-use Rattle.totals.specs.Walk.{Walked}
-use Rattle.totals.specs.inside.Steps.{IsOfRecords}
+use Rattle.totals.specs.Totals.{AreTotals, totals_of, Walked}
+use Rattle.totals.specs.inside.{IsOfRecords}
 use Rattle.totals.proofs.walk.Walk.status.Goals as goal
 
 pub returns-clause-stands : goal.returns-clause-stands

@@ -1,7 +1,6 @@
 use Rattle.std.proofs.Common.{subst, OnOk}
-use Rattle.cert.specs.Kinds.{owned_claim}
-use Rattle.totals.specs.Totals.{totals_of}
-use Rattle.totals.specs.Walk.{Walked, WalksOn}
+use Rattle.cert.specs.Terms.{owned_claim}
+use Rattle.totals.specs.Totals.{totals_of, Walked, WalksOn}
 use Rattle.totals.proofs.Walks.{answer_for, goes_on, judged_for, last_counted, last_in_order, last_read, still_of_records, with_ahead}
 use Rattle.totals.proofs.walk.Walk.step.Goals as goal
 

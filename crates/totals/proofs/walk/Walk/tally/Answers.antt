@@ -1,6 +1,6 @@
 use Rattle.std.proofs.Common.{◌∙◌, sym, ap, subst}
-use Rattle.ledger.specs.Tally.{IsTally}
-use Rattle.totals.specs.Walk.{Walked}
+use Rattle.ledger.specs.Terms.{IsTally}
+use Rattle.totals.specs.Totals.{Walked}
 use Rattle.totals.proofs.walk.Walk.tally.Goals as goal
 
 pub returns : goal.returns

@@ -1,4 +1,4 @@
-use Rattle.totals.specs.Walk.{WalksOn}
+use Rattle.totals.specs.Totals.{WalksOn}
 use Rattle.totals.proofs.walk.Walk.walk.Given as goal
 
 abbrev pub invariant-loop-i : goal.invariant-loop-i

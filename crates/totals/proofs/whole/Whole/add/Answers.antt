@@ -1,9 +1,8 @@
 use Rattle.std.proofs.Common.{sym, subst, Contains, rules}
-use Rattle.machine_text.specs.Packed.{Packed}
-use Rattle.ledger.specs.Contents.{IsOpenOn}
-use Rattle.totals.specs.Whole.{AddGives, Collected}
-use Rattle.totals.specs.Totals.{totals_of}
-use Rattle.totals.proofs.Added.{part_added, room_for, still_whole, with_roots}
+use Rattle.machine_text.specs.Terms.{Packed}
+use Rattle.ledger.specs.Terms.{IsOpenOn}
+use Rattle.totals.specs.Totals.{AddGives, Collected, totals_of}
+use Rattle.totals.proofs.Wholes.{part_added, room_for, still_whole, with_roots}
 use Rattle.totals.proofs.whole.Whole.add.Goals as goal
 
 pub returns-then-not-is_open : goal.returns-then-not-is_open

@@ -1,7 +1,5 @@
 use Rattle.std.proofs.Common.{◌≡◌, sym, ap, subst}
-use Rattle.totals.specs.Totals.{AreTotals, totals_of}
-use Rattle.totals.specs.Parts.{joined_with}
-use Rattle.totals.specs.Whole.{Collected}
+use Rattle.totals.specs.Totals.{AreTotals, totals_of, joined_with, Collected}
 use Rattle.totals.proofs.Wholes.{whole_is_board}
 use Rattle.totals.proofs.whole.Whole.champions_and_holdouts.Goals as goal
 

@@ -1,7 +1,6 @@
 use Rattle.std.proofs.Common.{[], sym, subst, List}
-use Rattle.machine_text.specs.Packed.{Packed}
-use Rattle.totals.specs.Whole.{IsWhole}
-use Rattle.totals.specs.Totals.{totals_of}
+use Rattle.machine_text.specs.Terms.{Packed}
+use Rattle.totals.specs.Totals.{IsWhole, totals_of}
 use Rattle.totals.proofs.Wholes.{trunk_alone}
 use Rattle.totals.proofs.whole.Whole.of.Goals as goal
 

@@ -1,7 +1,6 @@
 use Rattle.std.proofs.Common.{◌∙◌, sym, ap, subst}
-use Rattle.ledger.specs.Tally.{IsTally}
-use Rattle.totals.specs.Parts.{joined_with}
-use Rattle.totals.specs.Whole.{Collected}
+use Rattle.ledger.specs.Terms.{IsTally}
+use Rattle.totals.specs.Totals.{joined_with, Collected}
 use Rattle.totals.proofs.whole.Whole.tally.Goals as goal
 
 pub returns : goal.returns

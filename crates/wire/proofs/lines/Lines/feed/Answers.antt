@@ -1,9 +1,9 @@
 use Rattle.std.proofs.Common.{◌≡◌, ap, subst, sym, ◌∙◌, arith}
 use Rattle.std.specs.Prelude.{OnOk, IsOk, map}
-use Rattle.text.specs.Lines.{IsShort}
+use Rattle.text.specs.Terms.{IsShort}
 use Rattle.text.proofs.Cuts.{split_at_cut, split_nowhere}
-use Rattle.wire.specs.Lines.{fed, known}
-use Rattle.wire.proofs.Feeding.{moved, moved_short, moved_lines, line_fed, lines_fed, when_ok}
+use Rattle.wire.specs.Fulfilled.{fed, known}
+use Rattle.wire.proofs.LineLaws.{moved, moved_short, moved_lines, line_fed, lines_fed, when_ok}
 use Rattle.wire.proofs.lines.Lines.feed.Goals as goal
 
 pub returns-in_default-clause-ok : goal.returns-in_default-clause-ok

@@ -1,5 +1,0 @@
-use Rattle.std.proofs.Common.{rules}
-use Rattle.cert.proofs.record_fault.RecordFault.number.Goals as goal
-
-pub returns-in-BadKind : goal.returns-in-BadKind
-returns-in-BadKind c = search rules steps 100000

@@ -1,6 +1,0 @@
-use Rattle.std.proofs.Common.{◌≤◌}
-use Rattle.cmd_dispatch.proofs.reasons.fill.Given as goal
-
--- no more came than the buffer holds
-abbrev pub invariant-loop : goal.invariant-loop
-invariant-loop g l = l.count ≤ 128

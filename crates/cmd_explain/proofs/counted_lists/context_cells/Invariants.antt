@@ -1,5 +1,0 @@
-use Rattle.std.proofs.Common.{length}
-use Rattle.cmd_explain.proofs.counted_lists.context_cells.Given as goal
-
-abbrev pub decreases-parts : goal.decreases-parts
-decreases-parts l = length l.parts

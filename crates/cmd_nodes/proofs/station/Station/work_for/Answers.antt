@@ -1,5 +1,0 @@
-use Rattle.cmd_nodes.proofs.Taking.{round_answered}
-use Rattle.cmd_nodes.proofs.station.Station.work_for.Goals as goal
-
-pub returns-in-Ok : goal.returns-in-Ok
-returns-in-Ok g c = round_answered g.N.Node.answers _ _ _ c.in-Ok.ensures.ok

@@ -1,6 +1,0 @@
-use Rattle.std.proofs.Common.{drop}
-use Rattle.cmd_page.proofs.Listing.{AreBegun}
-use Rattle.cmd_page.proofs.ledger_list.append_parts.Given as goal
-
-abbrev pub invariant-loop-root : goal.invariant-loop-root
-invariant-loop-root g l = AreBegun (g.S.PartLedgers.finds l.parts) l.folder l.roots (drop l.root-index l.roots) l.fn.list.items l.list.items

@@ -1,0 +1,7 @@
+use Rattle.std.proofs.Common.{◌≡◌, ◌++◌, take, flat_map}
+use Rattle.cmd_page.specs.Page.{entity}
+use Rattle.cmd_page.proofs.shell.append_escaped.Given as goal
+
+-- those that were gone through
+abbrev pub invariant-loop-byte : goal.invariant-loop-byte
+invariant-loop-byte l = l.out.items ≡ l.fn.out.items ++ flat_map entity (take l.byte-index l.text)

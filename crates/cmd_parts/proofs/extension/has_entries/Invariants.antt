@@ -1,7 +1,0 @@
-use Rattle.std.proofs.Common.{ℕ, ◌<◌}
-use Rattle.cmd_parts.proofs.Extending.{StaysRow}
-use Rattle.cmd_parts.proofs.extension.has_entries.Given as goal
-
--- the rows before the state stay
-abbrev pub invariant-loop-q : goal.invariant-loop-q
-invariant-loop-q l = (q : ℕ) → q < l.q → StaysRow l.t l.root q

@@ -1,5 +1,0 @@
-use Rattle.cmd_parts.proofs.Settled.{all_below, if_ok}
-use Rattle.cmd_parts.proofs.settling.open_below.Goals as goal
-
-pub returns : goal.returns
-returns c = if_ok c.below.result (λ due is. all_below c.args.limit c.args.board.now c.open.result due.items c.open.ensures is) c.below.ensures

@@ -1,9 +1,0 @@
-use Rattle.std.proofs.Common.{◌≤◌}
-use Rattle.far.specs.inside.Sets.{IsUnited}
-use Rattle.far.proofs.sets.union_over.Given as goal
-
-abbrev pub decreases-members : goal.decreases-members
-decreases-members l = l.rest
-
-abbrev pub invariant-members : goal.invariant-members
-invariant-members l = record { united : IsUnited l.rows l.set l.r l.from l.rest l.union; within : l.from ≤ l.reach }

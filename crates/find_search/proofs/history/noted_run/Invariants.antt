@@ -1,6 +1,0 @@
-use Rattle.std.proofs.Common.{◌≡◌, length}
-use Rattle.find_search.proofs.history.noted_run.Given as goal
-
--- the runner stands at the loop's time, and the room stays
-abbrev pub invariant-loop-time : goal.invariant-loop-time
-invariant-loop-time l = (l.runner.steps ≡ l.time) × (length l.moments ≡ length l.fn.moments)

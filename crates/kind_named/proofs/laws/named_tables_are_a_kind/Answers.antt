@@ -1,5 +1,0 @@
-use Rattle.kind_named.proofs.KindLaws.{named_is_kind}
-use Rattle.kind_named.proofs.laws.named_tables_are_a_kind.Goals as goal
-
-pub returns : goal.returns
-returns c = named_is_kind

@@ -1,6 +1,0 @@
-use Rattle.std.proofs.Common.{refl}
-use Rattle.kind_named.proofs.Endings.{free_within}
-use Rattle.kind_named.proofs.repeating.repeating.Goals as goal
-
-pub returns : goal.returns
-returns c = free_within _ refl

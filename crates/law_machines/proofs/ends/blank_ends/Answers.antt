@@ -1,5 +1,0 @@
-use Rattle.law_machines.proofs.Blanks.{same_blank, same_word, same_repeat, same_right, same_left}
-use Rattle.law_machines.proofs.ends.blank_ends.Goals as goal
-
-pub returns : goal.returns
-returns c = record { blank = same_blank; word = same_word; words = same_repeat; right = same_right; left = same_left }

@@ -1,6 +1,0 @@
-use Rattle.law_tree.proofs.ClosedLaws.{one_mark}
-use Rattle.law_tree.proofs.closed.one_true_verdict.Goals as goal
-
--- a count is one number
-pub returns : goal.returns
-returns c = one_mark

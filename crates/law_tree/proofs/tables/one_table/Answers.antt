@@ -1,6 +1,0 @@
-use Rattle.law_tree.proofs.Packing.{same_table}
-use Rattle.law_tree.proofs.tables.one_table.Goals as goal
-
--- each place of the codes is that of a pair
-pub returns : goal.returns
-returns c = same_table

@@ -1,6 +1,0 @@
-use Rattle.law_turing.specs.Run.{start}
-use Rattle.law_turing.proofs.Extensions.{same_run}
-use Rattle.law_turing.proofs.alike.extension_runs.Goals as goal
-
-pub returns : goal.returns
-returns c = λ big m x k c is. same_run big m x k start c is

@@ -1,5 +1,0 @@
-use Rattle.law_turing.proofs.RunLaws.{before}
-use Rattle.law_turing.proofs.runs.earlier_times.Goals as goal
-
-pub returns : goal.returns
-returns c = before

@@ -1,5 +1,0 @@
-use Rattle.law_turing.proofs.RunLaws.{one_count, one_end}
-use Rattle.law_turing.proofs.runs.one_count.Goals as goal
-
-pub returns : goal.returns
-returns c = record { count = one_count; end = one_end }

@@ -1,5 +1,0 @@
-use Rattle.law_turing.proofs.Scores.{halts_with, score_is, score_within}
-use Rattle.law_turing.proofs.runs.one_score.Goals as goal
-
-pub returns : goal.returns
-returns c = record { some = halts_with; one = score_is; within = score_within }

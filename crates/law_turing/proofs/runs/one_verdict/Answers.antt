@@ -1,4 +1,0 @@
-use Rattle.law_turing.proofs.runs.one_verdict.Goals as goal
-
-pub returns : goal.returns
-returns c = λ m k s never. never k s

@@ -1,5 +1,0 @@
-use Rattle.lease_core.proofs.WorkerSends.{sends_own}
-use Rattle.lease_core.proofs.worker_laws.workers_send_their_records.Goals as goal
-
-pub returns : goal.returns
-returns g c = sends_own g.D.Decider.answers

@@ -1,8 +1,0 @@
-use Rattle.std.proofs.Common.{append_assoc}
-use Rattle.ngram_cps.specs.inside.Steps.{local_left}
-use Rattle.ngram_cps.proofs.step_text.local_left.Goals as goal
-
-pub returns : goal.returns
-unfolding local_left
-returns c =
-    rw (c.push_all.ensures, c.push-2.ensures, c.push.ensures, c.left_seen-local.ensures.text, c.as_slice.ensures, c.right_after.ensures.text) (simp append_assoc)

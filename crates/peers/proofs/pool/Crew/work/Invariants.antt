@@ -1,0 +1,17 @@
+use Rattle.std.proofs.Common.{◌≡◌, ◌-◌, length}
+use Rattle.std.specs.Prelude.{Result}
+use Rattle.wire.specs.declared.handing.TurnFault.{TurnFault}
+use Rattle.peers.specs.Crew.{AreInStep, Hall, hall, ServesFrom}
+use Rattle.peers.proofs.pool.Crew.work.Given as goal
+
+-- whatever becomes of the cores that are left becomes of all
+abbrev pub invariant-loop-place : goal.invariant-loop-place
+invariant-loop-place g l = record {
+  serves :
+      (result : Result (Unit {0}) TurnFault) (new : Hall g.row.N.Denot g.row.W.Denot)
+      → ServesFrom g.N.Node.answers g.N.Node.is_stopped g.W.LedgerOut.text 4096 (length l.fn.self.cores - l.place) l.place result (hall l.self (g.L.Link.sent l.link)) new
+      → ServesFrom g.N.Node.answers g.N.Node.is_stopped g.W.LedgerOut.text 4096 (length l.fn.self.cores) 0 result (hall l.fn.self (g.L.Link.sent l.fn.link)) new;
+  step : AreInStep g.N.Node.in_step g.W.LedgerOut.text l.fn.self.cores → AreInStep g.N.Node.in_step g.W.LedgerOut.text l.self.cores;
+  count : length l.self.cores ≡ length l.fn.self.cores;
+  waiting : g.L.Link.waiting l.link ≡ g.L.Link.waiting l.fn.link;
+}

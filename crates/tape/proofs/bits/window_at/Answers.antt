@@ -1,5 +1,0 @@
-use Rattle.tape.proofs.Windows.{window_bits}
-use Rattle.tape.proofs.bits.window_at.Goals as goal
-
-pub returns-clause-cells : goal.returns-clause-cells
-returns-clause-cells c = window_bits c.args.word c.args.low

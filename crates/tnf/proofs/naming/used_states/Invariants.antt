@@ -1,7 +1,0 @@
-use Rattle.machine_text.specs.Packed.{entry_of}
-use Rattle.tnf.proofs.Marks.{AreMarked}
-use Rattle.tnf.proofs.naming.used_states.Given as goal
-
--- the entries of the states before are marked
-abbrev pub invariant-loop-q : goal.invariant-loop-q
-invariant-loop-q l = AreMarked l.used l.q (entry_of l.t)

@@ -1,7 +1,0 @@
-use Rattle.ledger.specs.Records.{same_table}
-use Rattle.totals.proofs.Roots.{is_root}
-use Rattle.totals.proofs.adding.has_root.Goals as goal
-
-pub returns : goal.returns
-unfolding same_table
-returns c = is_root c.args.roots.now.keys c.args.root.now c.contains.result c.contains.ensures

@@ -1,0 +1,7 @@
+use Rattle.ledger.specs.Terms.{same_table}
+use Rattle.totals.proofs.Wholes.{is_root}
+use Rattle.totals.proofs.whole.has_root.Goals as goal
+
+pub returns : goal.returns
+unfolding same_table
+returns c = is_root c.args.roots.now.keys c.args.root.now c.contains.result c.contains.ensures

@@ -1,8 +1,0 @@
-use Rattle.wire.specs.Grammar.{message_of}
-use Rattle.std.proofs.Common.{rules}
-use Rattle.wire.proofs.decoder.decode.Goals as goal
-
--- answered by name, so that nothing is offered where an edit makes it false
-pub returns-then-frame-gt-MAX_LINE_BYTES : goal.returns-then-frame-gt-MAX_LINE_BYTES
-unfolding message_of
-returns-then-frame-gt-MAX_LINE_BYTES c = search rules steps 1000000

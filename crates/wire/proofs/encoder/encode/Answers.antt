@@ -1,5 +1,0 @@
-use Rattle.wire.proofs.ReadBack.{message_of-message_text}
-use Rattle.wire.proofs.encoder.encode.Goals as goal
-
-pub returns-in-Ok-clause-reads_back : goal.returns-in-Ok-clause-reads_back
-returns-in-Ok-clause-reads_back c = λ made. message_of-message_text _ (c.in-Ok.ensures.readable made)

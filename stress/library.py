@@ -203,7 +203,7 @@ def declared(path, name):
 def meanings(busybeaver, lines, due):
     """What each number means is said in the words of `bb check --json`, and of the crates where the program says numbers alone."""
     wanted = {}
-    for path, name in ((("machine_text", "src", "faults.rt"), "TextFault"), (("ledger", "src", "faults.rt"), "OfferFault"),
+    for path, name in ((("machine_text", "src", "grammar.rt"), "TextFault"), (("ledger", "src", "faults.rt"), "OfferFault"),
                        (("ledger", "src", "faults.rt"), "LoadFault")):
         wanted.update(declared(path, name))
     refused = {said.split(b" ")[1]: line for line, said in zip(lines, due) if said.startswith(b"refused")}
@@ -212,7 +212,7 @@ def meanings(busybeaver, lines, due):
         told = json.loads(line)
         wanted[told["code"]] = told["meaning"]
     # No record is known that gets it.
-    why = open(os.path.join(TOP, "crates", "cmd_explain", "src", "why.rt"), encoding="utf-8").read()
+    why = open(os.path.join(TOP, "crates", "cmd_explain", "src", "explain.rt"), encoding="utf-8").read()
     wanted[204] = re.search(r'Refused::NotSeen => "(.*?)"', why)[1]
     numbers = [*range(101, 106), *range(201, 205), *range(301, 306), *range(402, 406)]
     if sorted(wanted) != numbers:

@@ -1,4 +1,4 @@
 // Of which sources the program is: how the sum begins that tools/sources prints, which leaves out this file. dist/refresh
 // writes it.
 
-pub(crate) const SOURCES: &str = "9966791f2a60";
+pub(crate) const SOURCES: &str = "cbaed9c17bc4";

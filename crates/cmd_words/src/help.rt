@@ -43,8 +43,7 @@ With --json it is one object and a newline: best (a number or null), champions, 
 holdouts, never, nodes, ones (a number or null), ones_champions, open, root, status. It doesn't say what
 wasn't kept; the status is the same.
 
-Standard error shows the progress: at a terminal on one line that is written over, elsewhere with --progress, a line a
-second.
+Standard error shows the progress: at a terminal on one line that is written over, with --progress a line a second.
 
 With --why standard error says why the first line that isn't kept isn't: `line N isn't kept: NUMBER, WORDS`,
 without a number where it is torn off or repeated.

@@ -1,9 +1,9 @@
 #!/usr/bin/env python3
 """The tree of six states, by a sample: bench/six.py [COUNT [SEED ..]] draws tables with weights (bench/sample_six.rs), COUNT or
-more for each seed (1,000,000, and the seeds 1 to 5, if not said), gives them to `bb decide --hard`, and prints the rows of
-docs/SIX.md: how large the tree is by that, how many tables of a million there are of each kind, what is left, microseconds and
-bytes a table. Each record is judged again, by `bb check` and by the judge of judge/ (which needs ocamlfind). What is left goes to
-FILE where LEFT=FILE is in the environment, with weights.
+more for each seed (1,000,000, and the seeds 1 to 5, if not said), gives them to `bb decide --hard`, and prints a row for each
+seed: how large the tree is by that, how many tables of a million there are of each kind, what is left, microseconds and bytes a
+table (docs/SIX.md sums them up). Each record is judged again, by `bb check` and by the judge of judge/ (which needs ocamlfind).
+What is left goes to FILE where LEFT=FILE is in the environment, with weights.
 """
 import collections
 import os

@@ -18,7 +18,8 @@
 #   trunk.xz   the records of the trunk, by bb decide --hard
 #   GGG.xz     of each root of the group, in order, a line `nodes halting never holdouts best ones`, and behind it its holdouts; its
 #              champions where its best is the group's; made once and never changed
-#   sums       a line a group: G, the SHA-256 of its text, tables, holdouts, processor seconds
+#   sums       a line a group: G, the SHA-256 of its text, tables, holdouts, processor seconds (without those of a run that kill -9
+#              ended)
 #   late.xz    the records that --settle found of what the groups have left, by the program of now (or the one that BB names), in the
 #              order of their texts; each is accepted by bb check
 #   below.xz   of each of those that halt and have more than one entry open a line `below TABLE` and the numbers of its tree, of
@@ -156,6 +157,14 @@ spend() {
     spent=$(awk 'NR == 2 { gsub(/[ms]/, " "); printf "%.0f", $1 * 60 + $2 + $3 * 60 + $4 }' "$place/times")
 }
 
+# Adds what was spent since the last time to what group $name took.
+count() {
+    earlier=$spent
+    spend
+    took=$((took + spent - earlier))
+    echo "$took" > "$folder/begun/$name.seconds"
+}
+
 begin() {
     [ $# -gt 1 ] || fail "a commit and the options of bb walk are wanted"
     [ ! -e "$folder/about" ] || fail "$folder is begun already"
@@ -189,19 +198,26 @@ walk_groups() {
         name=$(printf %03d "$number")
         [ ! -e "$folder/$name.xz" ] || continue
         [ "$last" = 0 ] || [ "$(date +%s)" -lt "$last" ] || break
-        before=0
-        [ ! -e "$folder/begun/$name.seconds" ] || before=$(cat "$folder/begun/$name.seconds")
+        took=0
+        [ ! -e "$folder/begun/$name.seconds" ] || took=$(cat "$folder/begun/$name.seconds")
         walked "$number" "$folder/begun/$name" "$last" && whole=yes || whole=
-        earlier=$spent
-        spend
-        took=$((before + spent - earlier))
-        echo "$took" > "$folder/begun/$name.seconds"
+        count
         [ -n "$whole" ] || continue
         keep "$number" "$took"
     done
     rm "$folder/begun/lock"
     rmdir "$folder/begun" 2> /dev/null || :
     echo "whole: $(find "$folder" -maxdepth 1 -name '[0-9][0-9][0-9].xz' | wc -l) of $groups groups" >&2
+}
+
+# Ends what walks, as this script is ended, and keeps what its group took.
+ended() {
+    if [ -n "$walking" ]; then
+        kill -- "-$walking" 2> /dev/null || :
+        wait "$walking" 2> /dev/null || :
+        [ -z "$took" ] || count
+    fi
+    rm -rf "$place"
 }
 
 # Keeps group $1, which took so many processor seconds.
@@ -326,8 +342,9 @@ esac
 folder=$1
 jobs=${JOBS:-$(getconf _NPROCESSORS_ONLN)}
 walking=
+took=
 place=$(mktemp -d)
-trap '[ -z "$walking" ] || kill -- "-$walking" 2> /dev/null || :; rm -rf "$place"' EXIT
+trap ended EXIT
 trap 'exit 130' INT TERM HUP
 [ "$2" = --begin ] || [ -e "$folder/about" ] || fail "there is no $folder/about; --begin makes it"
 case $2 in

@@ -276,25 +276,35 @@ late() {
     [ ! -e "$folder/$1.xz" ] || xz -dc "$folder/$1.xz"
 }
 
-# Tries what is left with some options of bb decide. A table that halts after all hides the tree below it, which is walked then.
+# Tries what is left with some options of bb decide. A table that halts after all hides the tree below it, which is walked then, and
+# what that leaves is tried too.
 settle() {
     bb=${BB:-$top/dist/bb-linux-x86_64}
     left > "$place/left"
-    split -n "r/$jobs" "$place/left" "$place/left."
-    find "$place" -name 'left.*' | xargs -P "$jobs" -I {} "$bb" decide "$@" --input {} | grep -v ' U$' | sort > "$place/found" || :
-    "$bb" check < "$place/found" | grep -v '^[^ ]* \(halts\|never\)' && fail "a record doesn't stand"
-    { late late; cat "$place/found"; } | sort > "$place/late"
-    late below > "$place/below.new"
-    awk '{ table = $1 } $2 ~ /^[HL]$/ && gsub(/---/, "", table) > 1 { print $1 }' "$place/found" | while read -r root; do
-        # shellcheck disable=SC2046
-        "$bb" walk 6 --root "$root" --known "$place/late" $(said options) > "$place/report" || [ $? -eq 1 ] || fail "$root: no report"
-        awk "$group" "$place/report" | sed "1s/^/below $root /" >> "$place/below.new"
+    late late > "$place/late"
+    late below > "$place/trees"
+    : > "$place/all"
+    cp "$place/left" "$place/next"
+    while [ -s "$place/next" ]; do
+        split -n "r/$jobs" "$place/next" "$place/next."
+        find "$place" -name 'next.*' | xargs -P "$jobs" -I {} "$bb" decide "$@" --input {} | grep -v ' U$' | sort > "$place/found" || :
+        "$bb" check < "$place/found" | grep -v '^[^ ]* \(halts\|never\)' && fail "a record doesn't stand"
+        sort -o "$place/late" "$place/late" "$place/found"
+        cat "$place/found" >> "$place/all"
+        rm "$place"/next*
+        : > "$place/next"
+        awk '{ table = $1 } $2 ~ /^[HL]$/ && gsub(/---/, "", table) > 1 { print $1 }' "$place/found" | while read -r root; do
+            # shellcheck disable=SC2046
+            "$bb" walk 6 --root "$root" --known "$place/late" $(said options) > "$place/report" || [ $? -eq 1 ] || fail "$root: no report"
+            awk "$group" "$place/report" | sed "1s/^/below $root /" >> "$place/trees"
+            sed -n 's/^holdout //p' "$place/report" >> "$place/next"
+        done
     done
     xz -c "$place/late" > "$folder/late.xz.new"
-    xz -c "$place/below.new" > "$folder/below.xz.new"
+    xz -c "$place/trees" > "$folder/below.xz.new"
     mv "$folder/below.xz.new" "$folder/below.xz"
     mv "$folder/late.xz.new" "$folder/late.xz"
-    echo "$(wc -l < "$place/found") of $(wc -l < "$place/left") have a record now, $(left | wc -l) are left" >&2
+    echo "$(wc -l < "$place/all") of $(wc -l < "$place/left") and what lies below have a record now, $(left | wc -l) are left" >&2
 }
 
 # The report of the trunk's records and of all groups; the trunk's tables that halt are nodes of the tree too. Behind a line `late`
